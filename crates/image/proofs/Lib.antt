@@ -1,0 +1,4 @@
+-- The laws about images that the crates above cite.
+pub mod Places
+pub mod Lowest
+pub mod Words

@@ -1,0 +1,77 @@
+-- `check` asks the rules in their order: the first that applies decides.
+use borrow.Author.Tests.{lt-ltb, le-ltb, eq-eqb, ne-eqb}
+use Rattle.image.specs.Checks.{checkOf}
+use borrow.Author.Needs.{needs}
+use Rattle.image.proofs.checks.check.Statement.{statement}
+use Rattle.image.proofs.checks.check.Tie as tie
+use Rattle.image.proofs.checks.check.Reads as reads
+use Rattle.image.proofs.checks.check.Lts as lts
+use Rattle.image.proofs.checks.check_records.Reads as check-records-reads
+use Rattle.image.proofs.kind.Header.read.Reads as read-reads
+use Rattle.image.proofs.kind.Image.of.Reads as of-reads
+use Rattle.image.proofs.rules.bad_counts.Reads as bad-counts-reads
+use Rattle.image.proofs.rules.bad_cycle.Reads as bad-cycle-reads
+use Rattle.image.proofs.rules.bad_layout.Reads as bad-layout-reads
+
+cast-if1 : tie.Need-cast-if1
+cast-if1 c = search needs
+
+returns : tie.Need-returns
+unfolding checkOf
+returns c = rw (lt-ltb _ _ (c .if1 .taken))
+
+read-requires : tie.Need-read-requires
+read-requires c κs = search needs
+
+returns-2 : tie.Need-returns-2
+unfolding checkOf
+returns-2 c = rw (le-ltb _ _ (c .before .before .before .if1 .left), ← c .before .before .read .ensures, ne-eqb _ _ (c .if2 .taken))
+
+bad-cycle-requires : tie.Need-bad-cycle-requires
+bad-cycle-requires c κs = search needs
+
+returns-3 : tie.Need-returns-3
+unfolding checkOf
+returns-3 c = rw (le-ltb _ _ (c .before .before .before .before .before .if1 .left), ← c .before .before .before .before .read .ensures, eq-eqb _ _ (c .before .before .if2 .left), ← c .before .bad-cycle .ensures, c .if3 .taken)
+
+bad-counts-requires : tie.Need-bad-counts-requires
+bad-counts-requires c κs = search needs
+
+returns-4 : tie.Need-returns-4
+unfolding checkOf
+returns-4 c = rw (le-ltb _ _ (c .before .before .before .before .before .before .before .if1 .left), ← c .before .before .before .before .before .before .read .ensures, eq-eqb _ _ (c .before .before .before .before .if2 .left), ← c .before .before .before .bad-cycle .ensures, c .before .before .if3 .left, ← c .before .bad-counts .ensures, c .if4 .taken)
+
+bad-layout-requires : tie.Need-bad-layout-requires
+bad-layout-requires c κs = search needs
+
+returns-5 : tie.Need-returns-5
+unfolding checkOf
+returns-5 c = rw (le-ltb _ _ (c .before .before .before .before .before .before .before .before .before .if1 .left), ← c .before .before .before .before .before .before .before .before .read .ensures, eq-eqb _ _ (c .before .before .before .before .before .before .if2 .left), ← c .before .before .before .before .before .bad-cycle .ensures, c .before .before .before .before .if3 .left, ← c .before .before .before .bad-counts .ensures, c .before .before .if4 .left, ← c .before .bad-layout .ensures, c .if5 .taken)
+
+of-requires : tie.Need-of-requires
+of-requires c κs = search needs
+
+check-records-requires : tie.Need-check-records-requires
+check-records-requires c κs = search needs
+
+returns-6 : tie.Need-returns-6
+unfolding checkOf
+returns-6 c = rw (le-ltb _ _ (c .before .before .before .before .before .before .before .before .before .before .before .if1 .left), ← c .before .before .before .before .before .before .before .before .before .before .read .ensures, eq-eqb _ _ (c .before .before .before .before .before .before .before .before .if2 .left), ← c .before .before .before .before .before .before .before .bad-cycle .ensures, c .before .before .before .before .before .before .if3 .left, ← c .before .before .before .before .before .bad-counts .ensures, c .before .before .before .before .if4 .left, ← c .before .before .before .bad-layout .ensures, c .before .before .if5 .left, ← c .before .of .ensures) (c .check-records .ensures)
+
+pub check-spec : {M : Type 1} → statement M
+check-spec =
+    tie.close
+    (tie.spec
+    cast-if1
+    returns
+    read-requires
+    returns-2
+    bad-cycle-requires
+    returns-3
+    bad-counts-requires
+    returns-4
+    bad-layout-requires
+    returns-5
+    of-requires
+    check-records-requires
+    returns-6)

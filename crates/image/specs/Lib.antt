@@ -1,0 +1,6 @@
+pub mod Words
+pub mod Kind
+pub mod Records
+pub mod Rules
+pub mod Answers
+pub mod Checks

@@ -1,0 +1,30 @@
+// Words of four bytes, the least significant first. Past the end of the image every byte reads 0.
+ghost use mathlib.Core.Path.{_≡_};
+ghost use Rattle.image.specs.Words.{byteAt, wordAt, little};
+
+fn byte(bytes: &[u8], at: usize) -> u8
+    ensures { λ r. ⌜ r ≡ byteAt (now (bytes .entry)) at ⌝ }
+{
+    if at < bytes.len() { bytes[at] } else { 0 }
+}
+
+fn from_little(a: u8, b: u8, c: u8, d: u8) -> u32
+    ensures { λ r. ⌜ r ≡ little a b c d ⌝ }
+{
+    (a as u32) + 256 * (b as u32) + 65536 * (c as u32) + 16777216 * (d as u32)
+}
+
+pub fn word(bytes: &[u8], at: usize) -> u32
+    ensures { λ r. ⌜ r ≡ wordAt (now (bytes .entry)) at ⌝ }
+{
+    if at < bytes.len() {
+        from_little(
+            bytes[at],
+            byte(bytes, at + 1),
+            byte(bytes, at + 2),
+            byte(bytes, at + 3),
+        )
+    } else {
+        0
+    }
+}
