@@ -1,4 +1,8 @@
 -- The laws about images that the crates above cite.
-pub mod Places
 pub mod Lowest
+pub mod Only
+pub mod Orders
+pub mod Places
+pub mod Tests
+pub mod Validity
 pub mod Words

@@ -7,36 +7,34 @@ use lib.ListN.{length}
 use Rattle.image.specs.Kind.{headerOf, imageOf}
 use Rattle.image.specs.Rules.{badCycle, badCounts, badLayout, breaksOf, lowestOf}
 use Rattle.image.specs.declared.kind.Image.{Image}
-use Rattle.image.specs.declared.rules.Rule.the-variants as rule
-use Rattle.image.specs.declared.checks.Refusal.{Refusal}
-use Rattle.image.specs.declared.checks.Refusal.the-variants.{Short, Version, Cycle, Counts, Layout, Phase, Synchronizer, Arc, Order}
+use Rattle.image.specs.declared.rules.Rule.the-variants.{Phases, Synchronizers, Arcs, Order}
 use Rattle.image.specs.declared.checks.Checked.{Checked}
 use Rattle.image.specs.declared.checks.Checked.the-variants.{Good, Refused}
 
--- a rule about the whole image: refused where the test holds
-abbrev pub refuse : Bool → Refusal → Checked → Checked
-refuse true why rest = Refused why
-refuse false why rest = rest
+-- a rule about the whole image: refused by its number, with record 0, where the test holds
+abbrev pub refuse : Bool → ℕ → ℕ → Checked → Checked
+refuse true rule culprit rest = Refused rule culprit
+refuse false rule culprit rest = rest
 
 -- a rule about a table of n records: refused at the lowest record at fault
-abbrev pub refuseAt : (ℕ → Bool) → ℕ → (ℕ → Refusal) → Checked → Checked
-refuseAt bad n why rest = refuse (ltb (lowestOf bad n) n) (why (lowestOf bad n)) rest
+abbrev pub refuseAt : (ℕ → Bool) → ℕ → ℕ → Checked → Checked
+refuseAt bad n rule rest = refuse (ltb (lowestOf bad n) n) rule (lowestOf bad n) rest
 
 -- rules 6 to 9
 unfoldable pub recordsOf : List ℕ → Image → Checked
 recordsOf bytes image =
-    refuseAt (breaksOf bytes image rule.Phases) (image .phases) (λ i. Phase i)
-    (refuseAt (breaksOf bytes image rule.Synchronizers) (image .synchronizers) (λ i. Synchronizer i)
-    (refuseAt (breaksOf bytes image rule.Arcs) (image .arcs) (λ i. Arc i)
-    (refuseAt (breaksOf bytes image rule.Order) (image .arcs) (λ i. Order i)
+    refuseAt (breaksOf bytes image Phases) (image .phases) 6
+    (refuseAt (breaksOf bytes image Synchronizers) (image .synchronizers) 7
+    (refuseAt (breaksOf bytes image Arcs) (image .arcs) 8
+    (refuseAt (breaksOf bytes image Order) (image .arcs) 9
     (Good image))))
 
 unfoldable pub checkOf : List ℕ → Checked
 checkOf bytes =
     let header = headerOf bytes in
-    refuse (ltb (length bytes) 32) Short
-    (refuse (not (eqb (header .version) 1)) Version
-    (refuse (badCycle header) Cycle
-    (refuse (badCounts header) Counts
-    (refuse (badLayout header (length bytes)) Layout
+    refuse (ltb (length bytes) 32) 1 0
+    (refuse (not (eqb (header .version) 1)) 2 0
+    (refuse (badCycle header) 3 0
+    (refuse (badCounts header) 4 0
+    (refuse (badLayout header (length bytes)) 5 0
     (recordsOf bytes (imageOf header))))))

@@ -2,5 +2,5 @@ pub mod Words
 pub mod Kind
 pub mod Records
 pub mod Rules
-pub mod Answers
 pub mod Checks
+pub mod Valid

@@ -8,7 +8,6 @@ mod rules;
 
 pub use bytes::word;
 pub use checks::Checked;
-pub use checks::Refusal;
 pub use checks::check;
 pub use kind::Header;
 pub use kind::Image;

@@ -1,0 +1,238 @@
+-- An image is accepted exactly where it is valid. Each rule's test fails exactly where what the rule forbids does not
+-- hold, and an answer is Good exactly where every test fails.
+use mathlib.Core.Path.{_≡_, refl, sym, ap, _∙_}
+use mathlib.Core.Bool.{Bool, true, false, _||_, _&&_, not}
+use mathlib.Core.List.{List}
+use mathlib.Core.Logic.{_↔_, _⊎_, inl, inr}
+use Prim.Native.Nat.{ℕ, zero, suc, _+_, _*_, _-_, _<_, _≤_}
+use native.Mathlib.Omega.{arith}
+use lib.Dec.{ltb, leb, eqb}
+use lib.ListN.{length}
+use borrow.Author.Tests.{ltb-false, le-ltb, ltb-true, lt-ltb, eqb-true, eq-eqb, not-false}
+use Rattle.image.specs.Kind.{headerOf, imageOf, mostPhases, mostSynchronizers, mostArcs, longestCycle, longestDelay}
+use Rattle.image.specs.Records.{phaseAt, synchronizerAt, arcAt}
+use Rattle.image.specs.Rules.{badCycle, badCounts, badLayout, badPhase, badSynchronizer, badArc, badOrder, breaksOf, lowestOf, precedes}
+use Rattle.image.specs.Checks.{refuse, refuseAt, recordsOf, checkOf}
+use Rattle.image.specs.Valid.{imageIn, phaseIn, synchronizerIn, arcIn, ValidPhase, ValidSynchronizer, ValidArc, Before, Valid}
+use Rattle.image.specs.declared.kind.Header.{Header}
+use Rattle.image.specs.declared.kind.Image.{Image}
+use Rattle.image.specs.declared.records.Arc.{Arc}
+use Rattle.image.specs.declared.rules.Rule.the-variants as rule
+use Rattle.image.specs.declared.checks.Checked.{Checked}
+use Rattle.image.specs.declared.checks.Checked.the-variants.{Good, Refused}
+use Rattle.image.proofs.Lowest.{lowest-is, lowest-eq}
+use Rattle.image.proofs.Tests.{ltb-iff, leb-iff, differs-iff, below-iff, same-iff, or-iff, and-iff, either-iff, both-iff, not-iff}
+
+good-iff : (b : Bool) (rule culprit : ℕ) (rest : Checked) (x : Image) → (refuse b rule culprit rest ≡ Good x) ↔ ((b ≡ false) × (rest ≡ Good x))
+good-iff true rule culprit rest x = (λ h. (cc, cc), λ h. cc)
+good-iff false rule culprit rest x = (λ h. (refl, h), λ h. h .1)
+
+none-iff : (bad : ℕ → Bool) (n : ℕ) → (ltb (lowestOf bad n) n ≡ false) ↔ ((i : ℕ) → i < n → bad i ≡ false)
+none-iff bad n = (λ h i l. lowest-is bad n .passed i (omega (arith, ltb-false (lowestOf bad n) n h)), λ h. le-ltb _ _ (none h))
+  where
+    none : ((i : ℕ) → i < n → bad i ≡ false) → n ≤ lowestOf bad n
+    none h = omega (arith, lowest-eq bad n {i = n} (record { within = omega arith; passed = h; fails = λ l. let z : ⊥ = omega arith in absurd z }))
+
+back : (i : ℕ) → suc i - 1 ≡ i
+back i = omega arith
+
+before-iff : (a b : Arc) → (not (precedes a b) ≡ false) ↔ Before a b
+before-iff a b = not-iff _ (either-iff _ _ (below-iff _ _) (both-iff _ _ (same-iff _ _) (below-iff _ _)))
+
+-- every test of the table fails
+pub record Passed (bytes : List ℕ) : Type 0 where
+  pub long : ltb (length bytes) 32 ≡ false
+  pub version : not (eqb (headerOf bytes .version) 1) ≡ false
+  pub cycle : badCycle (headerOf bytes) ≡ false
+  pub counts : badCounts (headerOf bytes) ≡ false
+  pub layout : badLayout (headerOf bytes) (length bytes) ≡ false
+  pub phase : (i : ℕ) → i < imageIn bytes .phases → badPhase bytes (imageIn bytes) i ≡ false
+  pub synchronizer : (i : ℕ) → i < imageIn bytes .synchronizers → badSynchronizer bytes (imageIn bytes) i ≡ false
+  pub arc : (i : ℕ) → i < imageIn bytes .arcs → badArc bytes (imageIn bytes) i ≡ false
+  pub order : (i : ℕ) → i < imageIn bytes .arcs → badOrder bytes (imageIn bytes) i ≡ false
+
+module _ (bytes : List ℕ) where
+  pub passed : (x : Image) → checkOf bytes ≡ Good x → Passed bytes
+  unfolding checkOf recordsOf
+  passed x h =
+      let long = good-iff (ltb (length bytes) 32) _ _ _ x .0 h in
+      let version = good-iff _ _ _ _ x .0 (long .1) in
+      let cycle = good-iff _ _ _ _ x .0 (version .1) in
+      let counts = good-iff _ _ _ _ x .0 (cycle .1) in
+      let layout = good-iff _ _ _ _ x .0 (counts .1) in
+      let phase = good-iff _ _ _ _ x .0 (layout .1) in
+      let synchronizer = good-iff _ _ _ _ x .0 (phase .1) in
+      let arc = good-iff _ _ _ _ x .0 (synchronizer .1) in
+      let order = good-iff _ _ _ _ x .0 (arc .1) in
+      record {
+        long = long .0;
+        version = version .0;
+        cycle = cycle .0;
+        counts = counts .0;
+        layout = layout .0;
+        phase = none-iff _ _ .0 (phase .0);
+        synchronizer = none-iff _ _ .0 (synchronizer .0);
+        arc = none-iff _ _ .0 (arc .0);
+        order = none-iff _ _ .0 (order .0);
+      }
+
+  pub accepted : Passed bytes → checkOf bytes ≡ Good (imageIn bytes)
+  unfolding checkOf recordsOf
+  accepted p =
+      good-iff _ _ _ _ _ .1 (
+        p .long,
+        good-iff _ _ _ _ _ .1 (
+          p .version,
+          good-iff _ _ _ _ _ .1 (
+            p .cycle,
+            good-iff _ _ _ _ _ .1 (
+              p .counts,
+              good-iff _ _ _ _ _ .1 (
+                p .layout,
+                good-iff _ _ _ _ _ .1 (
+                  none-iff _ _ .1 (p .phase),
+                  good-iff _ _ _ _ _ .1 (
+                    none-iff _ _ .1 (p .synchronizer),
+                    good-iff _ _ _ _ _ .1 (
+                      none-iff _ _ .1 (p .arc),
+                      good-iff _ _ _ _ _ .1 (none-iff _ _ .1 (p .order), refl),
+                    ),
+                  ),
+                ),
+              ),
+            ),
+          ),
+        ),
+      )
+
+  cycle-iff : (badCycle (headerOf bytes) ≡ false) ↔ ((1 ≤ imageIn bytes .cycle) × (imageIn bytes .cycle ≤ longestCycle))
+  cycle-iff = or-iff _ _ (ltb-iff _ _) (ltb-iff _ _)
+
+  counts-iff : (badCounts (headerOf bytes) ≡ false) ↔
+      ((((1 ≤ imageIn bytes .phases) × (imageIn bytes .phases ≤ mostPhases))
+      × (imageIn bytes .synchronizers ≤ mostSynchronizers))
+      × (imageIn bytes .arcs ≤ mostArcs))
+  counts-iff = or-iff _ _ (or-iff _ _ (or-iff _ _ (ltb-iff _ _) (ltb-iff _ _)) (ltb-iff _ _)) (ltb-iff _ _)
+
+  layout-iff : (badLayout (headerOf bytes) (length bytes) ≡ false) ↔
+      ((((imageIn bytes .layout .phases ≡ 32)
+      × (imageIn bytes .layout .synchronizers ≡ 32 + 8 * imageIn bytes .phases))
+      × (imageIn bytes .layout .arcs ≡ 32 + 8 * imageIn bytes .phases + 24 * imageIn bytes .synchronizers))
+      × (length bytes ≡ 32 + 8 * imageIn bytes .phases + 24 * imageIn bytes .synchronizers + 16 * imageIn bytes .arcs))
+  layout-iff = or-iff _ _ (or-iff _ _ (or-iff _ _ (differs-iff _ _) (differs-iff _ _)) (differs-iff _ _)) (differs-iff _ _)
+
+  module _ (i : ℕ) where
+    phase-iff : (badPhase bytes (imageIn bytes) i ≡ false) ↔
+        ((((phaseIn bytes i .active ≤ imageIn bytes .cycle)
+        × (phaseIn bytes i .closing ≤ imageIn bytes .cycle))
+        × (0 < i → phaseIn bytes (i - 1) .closing ≤ phaseIn bytes i .closing))
+        × (i + 1 ≡ imageIn bytes .phases → phaseIn bytes i .closing ≡ imageIn bytes .cycle))
+    unfolding badPhase
+    phase-iff =
+        or-iff _ _
+        (or-iff _ _
+        (or-iff _ _ (ltb-iff _ _) (ltb-iff _ _))
+        (and-iff _ _ (below-iff _ _) (ltb-iff _ _)))
+        (and-iff _ _ (same-iff _ _) (differs-iff _ _))
+
+    synchronizer-iff : (badSynchronizer bytes (imageIn bytes) i ≡ false) ↔
+        ((((((synchronizerIn bytes i .phase < imageIn bytes .phases)
+        × (synchronizerIn bytes i .kind ≤ 1))
+        × (synchronizerIn bytes i .setup ≤ imageIn bytes .cycle))
+        × (synchronizerIn bytes i .hold ≤ imageIn bytes .cycle))
+        × (synchronizerIn bytes i .least ≤ synchronizerIn bytes i .greatest))
+        × (synchronizerIn bytes i .greatest ≤ longestDelay))
+    unfolding badSynchronizer
+    synchronizer-iff =
+        or-iff _ _
+        (or-iff _ _
+        (or-iff _ _
+        (or-iff _ _
+        (or-iff _ _ (leb-iff _ _) (ltb-iff _ _))
+        (ltb-iff _ _))
+        (ltb-iff _ _))
+        (ltb-iff _ _))
+        (ltb-iff _ _)
+
+    arc-iff : (badArc bytes (imageIn bytes) i ≡ false) ↔
+        ((((arcIn bytes i .from < imageIn bytes .synchronizers)
+        × (arcIn bytes i .to < imageIn bytes .synchronizers))
+        × (arcIn bytes i .least ≤ arcIn bytes i .greatest))
+        × (arcIn bytes i .greatest ≤ longestDelay))
+    unfolding badArc
+    arc-iff =
+        or-iff _ _
+        (or-iff _ _
+        (or-iff _ _ (leb-iff _ _) (leb-iff _ _))
+        (ltb-iff _ _))
+        (ltb-iff _ _)
+
+    order-iff : (badOrder bytes (imageIn bytes) i ≡ false) ↔ (0 < i → Before (arcIn bytes (i - 1)) (arcIn bytes i))
+    unfolding badOrder
+    order-iff = and-iff _ _ (below-iff _ _) (before-iff (arcIn bytes (i - 1)) (arcIn bytes i))
+
+  -- each rule's negation, from the tests
+  pub valid : Passed bytes → Valid bytes
+  valid p =
+      let cycle = cycle-iff .0 (p .cycle) in
+      let counts = counts-iff .0 (p .counts) in
+      let layout = layout-iff .0 (p .layout) in
+      record {
+        long = ltb-iff _ _ .0 (p .long);
+        version = differs-iff _ _ .0 (p .version);
+        some-cycle = cycle .0;
+        cycle = cycle .1;
+        some-phase = counts .0 .0 .0;
+        phases = counts .0 .0 .1;
+        synchronizers = counts .0 .1;
+        arcs = counts .1;
+        phase-table = layout .0 .0 .0;
+        synchronizer-table = layout .0 .0 .1;
+        arc-table = layout .0 .1;
+        total = layout .1;
+        phase = λ i l. let h = phase-iff i .0 (p .phase i l) in record { active = h .0 .0 .0; closing = h .0 .0 .1 };
+        rising = λ i l. let h = phase-iff (suc i) .0 (p .phase (suc i) l) .0 .1 (omega arith) in rw (back i) at h;
+        last = λ i l. phase-iff i .0 (p .phase i (omega arith)) .1 (omega arith);
+        synchronizer = λ i l. let h = synchronizer-iff i .0 (p .synchronizer i l) in record {
+          phase = h .0 .0 .0 .0 .0;
+          kind = h .0 .0 .0 .0 .1;
+          setup = h .0 .0 .0 .1;
+          hold = h .0 .0 .1;
+          least = h .0 .1;
+          greatest = h .1;
+        };
+        arc = λ i l. let h = arc-iff i .0 (p .arc i l) in record {
+          from = h .0 .0 .0;
+          to = h .0 .0 .1;
+          least = h .0 .1;
+          greatest = h .1;
+        };
+        ordered = λ i l. let h = order-iff (suc i) .0 (p .order (suc i) l) (omega arith) in rw (back i) at h;
+      }
+
+  -- and the tests, from each rule's negation
+  pub fails : Valid bytes → Passed bytes
+  fails v = record {
+    long = ltb-iff _ _ .1 (v .long);
+    version = differs-iff _ _ .1 (v .version);
+    cycle = cycle-iff .1 (v .some-cycle, v .cycle);
+    counts = counts-iff .1 (((v .some-phase, v .phases), v .synchronizers), v .arcs);
+    layout = layout-iff .1 (((v .phase-table, v .synchronizer-table), v .arc-table), v .total);
+    phase = λ i l. let h = v .phase i l in phase-iff i .1 (((h .active, h .closing), rising i l), λ e. v .last i (omega arith));
+    synchronizer = λ i l. let h = v .synchronizer i l in
+        synchronizer-iff i .1 (((((h .phase, h .kind), h .setup), h .hold), h .least), h .greatest);
+    arc = λ i l. let h = v .arc i l in arc-iff i .1 (((h .from, h .to), h .least), h .greatest);
+    order = λ i l. order-iff i .1 (ordered i l);
+  }
+    where
+      rising : (i : ℕ) → i < imageIn bytes .phases → 0 < i → phaseIn bytes (i - 1) .closing ≤ phaseIn bytes i .closing
+      rising zero l z = let y : ⊥ = omega arith in absurd y
+      rising (suc i) l z = rw (back i) (v .rising i l)
+
+      ordered : (i : ℕ) → i < imageIn bytes .arcs → 0 < i → Before (arcIn bytes (i - 1)) (arcIn bytes i)
+      ordered zero l z = let y : ⊥ = omega arith in absurd y
+      ordered (suc i) l z = rw (back i) (v .ordered i l)
+
+-- an image is accepted exactly where it is valid, and then the answer is what its header says
+pub accepts : (bytes : List ℕ) → Valid bytes ↔ (checkOf bytes ≡ Good (imageIn bytes))
+accepts bytes = (λ v. accepted bytes (fails bytes v), λ h. valid bytes (passed bytes _ h))
