@@ -1,0 +1,92 @@
+-- How large the clock's numbers are: shifts and launches lie between 0 and Tc, and weights follow. Early weights are no greater
+-- than late ones, so the early flow lies within the late one.
+use mathlib.Core.Path.{_≡_, refl}
+use mathlib.Core.Bool.{Bool, true, false, cond}
+use Prim.Native.Nat.{ℕ, _+_, _≤_, _<_}
+use native.Mathlib.Omega.{arith}
+use lib.Dec.{ltb}
+use lib.IntN.{ℤ, pos, negsuc, _+ℤ_, _-ℤ_}
+use lib.Signed.{_≤ℤ_, ≤ℤ-refl}
+use borrow.Author.Tests.{ltb-true, ltb-false, le-ltb}
+use Rattle.ticks.proofs.Ints.{ints, sum, diff}
+use Rattle.flow.specs.Flow.{Side, late, early}
+use Rattle.flow.specs.Bounds.{Within}
+use Rattle.circuit.specs.Circuit.{Circuit}
+use Rattle.circuit.specs.Clock.{shift, across, isLatch, opening, launch, delay, weight, flow}
+use Rattle.circuit.proofs.Sound.{Sound}
+
+-- 0 ≤ z ≤ n
+pub record Between (z : ℤ) (n : ℕ) : Type 0 where
+  pub low : pos 0 ≤ℤ z
+  pub high : z ≤ℤ pos n
+
+pub shift-self : (c : Circuit) (p : ℕ) → shift c p p ≡ pos (c .cycle)
+unfolding shift
+shift-self c p = rw (le-ltb p p (omega arith)) (omega (ints, diff (pos (c .cycle + c .closing p)) (pos (c .closing p))))
+
+module _ (c : Circuit) (v : Sound c) where
+  pub shift-range : (p q : ℕ) → p < c .phases → q < c .phases → Between (shift c p q) (c .cycle)
+  unfolding shift
+  shift-range p q l m = go (ltb p q) refl
+    where
+      go : (t : Bool) → ltb p q ≡ t →
+          Between (cond t (pos (c .closing q) -ℤ pos (c .closing p)) (pos (c .cycle + c .closing q) -ℤ pos (c .closing p))) (c .cycle)
+      go true e = let h = v .rising p q (omega (arith, ltb-true p q e)) m in let k = v .closing q m in record {
+        low = omega (ints, diff (pos (c .closing q)) (pos (c .closing p)));
+        high = omega (ints, diff (pos (c .closing q)) (pos (c .closing p)));
+      }
+      go false e = let h = v .rising q p (omega (arith, ltb-false p q e)) l in let k = v .closing p l in record {
+        low = omega (ints, diff (pos (c .cycle + c .closing q)) (pos (c .closing p)));
+        high = omega (ints, diff (pos (c .cycle + c .closing q)) (pos (c .closing p)));
+      }
+
+  pub across-range : (a : ℕ) → a < c .arcs → Between (across c a) (c .cycle)
+  across-range a l = shift-range _ _ (v .phase _ (v .from a l)) (v .phase _ (v .to a l))
+
+  pub opening-range : (i : ℕ) → i < c .synchronizers → Between (opening c i) (c .cycle)
+  unfolding opening
+  opening-range i l = let h = v .active (c .phase i) (v .phase i l) in record {
+    low = omega (ints, diff (pos (c .cycle)) (pos (c .active (c .phase i))));
+    high = omega (ints, diff (pos (c .cycle)) (pos (c .active (c .phase i))));
+  }
+
+  pub launch-range : (i : ℕ) → i < c .synchronizers → Between (launch c i) (c .cycle)
+  unfolding launch
+  launch-range i l = go (isLatch c i)
+    where
+      go : (t : Bool) → Between (cond t (opening c i) (pos (c .cycle))) (c .cycle)
+      go true = opening-range i l
+      go false = record { low = omega ints; high = ≤ℤ-refl _ }
+
+  pub delay-le : (a : ℕ) → a < c .arcs → delay early c a ≤ delay late c a
+  unfolding delay
+  delay-le a l = omega (arith, v .least (c .from a) (v .from a l), v .shortest a l)
+
+  late-most : (a : ℕ) → a < c .arcs → delay late c a ≤ 2000000000
+  unfolding delay
+  late-most a l = omega (arith, v .greatest (c .from a) (v .from a l), v .longest a l)
+
+  delay-most : (s : Side) (a : ℕ) → a < c .arcs → delay s c a ≤ 2000000000
+  delay-most early a l = omega (arith, delay-le a l, late-most a l)
+  delay-most late a l = late-most a l
+
+  pub weight-high : (s : Side) (a : ℕ) → a < c .arcs → weight s c a ≤ℤ pos 2000000000
+  unfolding weight
+  weight-high s a l = omega (ints, delay-most s a l, across-range a l .low, diff (pos (delay s c a)) (across c a))
+
+  pub weight-low : (s : Side) (a : ℕ) → a < c .arcs → negsuc 999999999 ≤ℤ weight s c a
+  unfolding weight
+  weight-low s a l = omega (ints, v .cycle, across-range a l .high, diff (pos (delay s c a)) (across c a))
+
+  pub weight-le : (a : ℕ) → a < c .arcs → weight early c a ≤ℤ weight late c a
+  unfolding weight
+  weight-le a l = omega (ints, delay-le a l, diff (pos (delay early c a)) (across c a), diff (pos (delay late c a)) (across c a))
+
+  pub early-within : Within late (flow early c) (flow late c)
+  early-within = record {
+    nodes = refl;
+    latch = λ i l. refl;
+    launch = λ i l. ≤ℤ-refl _;
+    cover = λ a l. (a, record { here = l; source = refl; target = refl; weight = weight-le a l });
+    keeps = tt;
+  }

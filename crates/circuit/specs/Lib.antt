@@ -1,0 +1,4 @@
+pub mod Circuit
+pub mod Clock
+pub mod Times
+pub mod Narrows

@@ -1,0 +1,221 @@
+-- A round that still changes a node, as late as the number of nodes, shows a ring of gain above zero. An arc raised the node, and
+-- its source rose in the round before: so a chain of arcs goes back to the first round. It has more places than there are nodes,
+-- so a node comes twice. From the one place to the other the walk is closed, its nodes are distinct, and it adds to the time.
+use mathlib.Core.Path.{_≡_, refl, sym, ap}
+use mathlib.Core.Bool.{Bool, true, false}
+use mathlib.Core.List.{List, [], _∷_}
+use mathlib.Core.Logic.{_≢_}
+use Prim.Native.Nat.{ℕ, zero, suc, _+_, _-_, _<_, _≤_}
+use native.Mathlib.Omega.{arith}
+use lib.IntN.{ℤ, pos, _+ℤ_}
+use lib.ListN.{length}
+use lib.Signed.{_≤ℤ_, _<ℤ_}
+use Rattle.ticks.proofs.Ints.{ints, sum}
+use Rattle.ticks.proofs.Order.{≤ℤ-trans, ≤ℤ-eq, ≤ℤ-<ℤ-trans}
+use Rattle.ticks.proofs.Extremes.{max-left, greater}
+use Rattle.flow.specs.Flow.{Flow, Good, Side, late, early, When, at, brings, departs, next, round}
+use Rattle.flow.specs.Bounds.{Gives}
+use Rattle.flow.specs.Walk.{Step, Walk, gain, sources, Every, Distinct, GrowingRing}
+use Rattle.flow.proofs.Below.{Twice, twice-apart, pigeons}
+use Rattle.flow.proofs.Arrival.{Found, nothing, found, find}
+use Rattle.flow.proofs.Next.{launch-next}
+use Rattle.flow.proofs.Rounds.{rises-by}
+
+-- the arc a brings the latch i all of the time t from E, and no more than the time u from D
+record Pull (f : Flow) (D E : ℕ → ℤ) (i : ℕ) (u t : ℤ) (a : ℕ) : Type 0 where
+  here : a < f .arcs
+  enters : f .target a ≡ i
+  holds : f .latch i ≡ true
+  most : brings f D a ≤ℤ u
+  carry : t ≤ℤ brings f E a
+
+-- of two arrivals on one side: late, the arc that gives the second; early, the arc that gives the first
+shared : (s : Side) (f : Flow) (D E : ℕ → ℤ) (i n : ℕ) (u t : ℤ) (a b : ℕ) → Gives s f D i n u a → Gives s f E i n t b →
+    (c : ℕ) × (c < n) × (f .target c ≡ i) × (brings f D c ≤ℤ u) × (t ≤ℤ brings f E c)
+shared late f D E i n u t a b h k = (b, k .here, k .enters, h .bounds b (k .here) (k .enters), ≤ℤ-eq (sym (k .gives)))
+shared early f D E i n u t a b h k = (a, h .here, h .enters, ≤ℤ-eq (h .gives), k .bounds a (h .here) (h .enters))
+
+-- a latch that departs above its launch is pulled by an arc; in other departures that arc brings no more than the latch's
+pull : (s : Side) (f : Flow) (D E : ℕ → ℤ) (i : ℕ) → f .launch i <ℤ next s f E i →
+    (a : ℕ) × Pull f D E i (next s f D i) (next s f E i) a
+unfolding next
+pull s f D E i h = go (f .latch i) refl (find s f D i) (find s f E i) h
+  where
+    go : (b : Bool) → f .latch i ≡ b → {w v : When} → Found s f D i (f .arcs) w → Found s f E i (f .arcs) v →
+        f .launch i <ℤ departs b (f .launch i) v →
+        (a : ℕ) × Pull f D E i (departs b (f .launch i) w) (departs b (f .launch i) v) a
+    go false e k m h = let z : ⊥ = omega ints in absurd z
+    go true e k (nothing m) h = let z : ⊥ = omega ints in absurd z
+    go true e (nothing k) (found b m) h = absurd (k b (m .here) (m .enters))
+    go true e (found {t = u} a k) (found {t} b m) h =
+        let c = shared s f D E i (f .arcs) u t a b k m in (
+          c .0,
+          record {
+            here = c .1;
+            enters = c .2;
+            holds = e;
+            most = ≤ℤ-trans (c .3) (max-left u (f .launch i));
+            carry = omega (ints, greater t (f .launch i), c .4);
+          },
+        )
+
+-- round n changed i
+abbrev Rose : Side → Flow → ℕ → ℕ → Type 0
+Rose s f zero i = Unit {0}
+Rose s f (suc n) i = round s f n i <ℤ round s f (suc n) i
+
+-- the arc a from i changes the latch j at round n + 1
+record Link (s : Side) (f : Flow) (n i a j : ℕ) : Type 0 where
+  step : Step f i a
+  enters : f .target a ≡ j
+  carry : round s f (suc n) j ≤ℤ (round s f n i +ℤ f .weight a)
+  rose : round s f n j <ℤ round s f (suc n) j
+
+link : (s : Side) (f : Flow) (n j : ℕ) (D : ℕ → ℤ) (u : ℤ) (a : ℕ) →
+    Rose s f (suc n) j → Pull f D (round s f n) j u (round s f (suc n) j) a → Link s f n (f .source a) a j
+link s f n j D u a h p = record {
+  step = record { here = p .here; from = refl; holds = rw (p .enters) (p .holds) };
+  enters = p .enters;
+  carry = p .carry;
+  rose = h;
+}
+
+-- where round n + 1 changed j, an arc did, from a node that round n changed
+back : (s : Side) (f : Flow) (n j : ℕ) → Rose s f (suc n) j → (a : ℕ) × Link s f n (f .source a) a j × Rose s f n (f .source a)
+unfolding round
+back s f zero j h = let p = pull s f (f .launch) (f .launch) j h in (p .0, link s f zero j (f .launch) _ (p .0) h (p .1), tt)
+back s f (suc n) j h =
+    let D = round s f n in
+    let E = round s f (suc n) in
+    let p = pull s f D E j (≤ℤ-<ℤ-trans (launch-next s f D j) h) in
+    let i = f .source (p .0) in
+    let w = f .weight (p .0) in
+    (p .0, link s f (suc n) j D _ (p .0) h (p .1), omega (ints, h, p .1 .most, p .1 .carry, sum (D i) w, sum (E i) w))
+
+-- nodes u = node 0, node 1, .. back from a node that round n changed, each changed by the next
+record Chain (s : Side) (f : Flow) (n u : ℕ) : Type 0 where
+  node : ℕ → ℕ
+  arc : ℕ → ℕ
+  ends : node 0 ≡ u
+  small : (d : ℕ) → d ≤ n → node d < f .nodes
+  link : (d k : ℕ) → d + suc k ≡ n → Link s f k (node (suc d)) (arc d) (node d)
+
+abbrev push : ℕ → (ℕ → ℕ) → ℕ → ℕ
+push x g zero = x
+push x g (suc d) = g d
+
+extend : (s : Side) (f : Flow) (n u a : ℕ) → u < f .nodes →
+    Link s f n (f .source a) a u → Chain s f n (f .source a) → Chain s f (suc n) u
+extend s f n u a l h c = record {
+  node = push u (c .node);
+  arc = push a (c .arc);
+  ends = refl;
+  small = small;
+  link = links;
+}
+  where
+    small : (d : ℕ) → d ≤ suc n → push u (c .node) d < f .nodes
+    small zero k = l
+    small (suc d) k = c .small d (omega arith)
+
+    links : (d k : ℕ) → d + suc k ≡ suc n → Link s f k (c .node d) (push a (c .arc) d) (push u (c .node) d)
+    links zero k e = let q : k ≡ n = omega arith in rw (q, c .ends) h
+    links (suc d) k e = c .link d k (omega arith)
+
+chain : (s : Side) (f : Flow) → Good f → (n u : ℕ) → u < f .nodes → Rose s f n u → Chain s f n u
+chain s f good zero u l h = record {
+  node = λ d. u;
+  arc = λ d. 0;
+  ends = refl;
+  small = λ d k. l;
+  link = λ d k e. let z : ⊥ = omega arith in absurd z;
+}
+chain s f good (suc n) u l h = let b = back s f n u h in
+    extend s f n u (b .0) l (b .1) (chain s f good n (f .source (b .0)) (good .leaves (b .0) (b .1 .step .here)) (b .2))
+
+-- d arcs of a chain in order of travel, from place b on
+abbrev route : (ℕ → ℕ) → ℕ → ℕ → List ℕ
+route arc b zero = []
+route arc zero (suc d) = []
+route arc (suc b) (suc d) = arc b ∷ route arc b d
+
+-- a walk from i to j, and what the rounds say of its gain
+record Along (s : Side) (f : Flow) (i m j n : ℕ) (p : List ℕ) : Type 0 where
+  walk : Walk f i p j
+  gains : round s f n j ≤ℤ (round s f m i +ℤ gain f p)
+
+module _ (s : Side) (f : Flow) (n u : ℕ) (c : Chain s f n u) where
+  along : (d b a : ℕ) → a + d ≡ b → (m k : ℕ) → b + m ≡ n → a + k ≡ n →
+      Along s f (c .node b) m (c .node a) k (route (c .arc) b d)
+  along zero b a e m k p q =
+      let x : b ≡ a = omega arith in
+      let y : m ≡ k = omega arith in
+      record { walk = ap (c .node) x; gains = rw (x, y) (omega (ints, sum (round s f k (c .node a)) (pos 0))) }
+  along (suc d) zero a e m k p q = let z : ⊥ = omega arith in absurd z
+  along (suc d) (suc b) a e m k p q =
+      let h = along d b a (omega arith) (suc m) k (omega arith) q in
+      let l = c .link b m (omega arith) in
+      let g = gain f (route (c .arc) b d) in
+      let w = f .weight (c .arc b) in
+      let t = round s f m (c .node (suc b)) in
+      record {
+        walk = (l .step, rw (l .enters) (h .walk));
+        gains = omega (ints, h .gains, l .carry, sum (round s f (suc m) (c .node b)) g, sum t w, sum w g, sum t (w +ℤ g));
+      }
+
+  -- the arcs leave the nodes after place a, up to place b
+  leaves-every : (P : ℕ → Type 0) (d b a : ℕ) → a + d ≡ b → b ≤ n →
+      ((x : ℕ) → a < x → x ≤ b → P (c .node x)) → Every P (sources f (route (c .arc) b d))
+  leaves-every P zero b a e l h = tt
+  leaves-every P (suc d) zero a e l h = tt
+  leaves-every P (suc d) (suc b) a e l h = (
+    rw (c .link b (n - suc b) (omega arith) .step .from) (h (suc b) (omega arith) (omega arith)),
+    leaves-every P d b a (omega arith) (omega arith) (λ x k m. h x k (omega arith)),
+  )
+
+  leaves-distinct : (d b a : ℕ) → a + d ≡ b → b ≤ n →
+      ((y : ℕ) → y ≤ b → (x : ℕ) → a < x → x < y → c .node x ≢ c .node y) → Distinct (sources f (route (c .arc) b d))
+  leaves-distinct zero b a e l h = tt
+  leaves-distinct (suc d) zero a e l h = tt
+  leaves-distinct (suc d) (suc b) a e l h = (
+    rw (c .link b (n - suc b) (omega arith) .step .from) (leaves-every (λ y. c .node (suc b) ≢ y) d b a (omega arith) (omega arith)
+        (λ x k m r. h (suc b) (omega arith) x k (omega arith) (sym r))),
+    leaves-distinct d b a (omega arith) (omega arith) (λ y k. h y (omega arith)),
+  )
+
+-- what adds to a time is not empty
+grows-some : (f : Flow) (p : List ℕ) → pos 0 <ℤ gain f p → 0 < length p
+grows-some f [] h = omega ints
+grows-some f (a ∷ p) h = omega arith
+
+-- the first node that comes twice closes a ring
+closes : (s : Side) (f : Flow) → Good f → (n u : ℕ) (c : Chain s f n u) → Twice (c .node) (suc n) → GrowingRing f
+closes s f good n u c t =
+    let a = t .first in
+    let b = t .second in
+    let m = n - b in
+    let k = n - suc a in
+    let x : a < b = t .order in
+    let y : b < suc n = t .bound in
+    let p = route (c .arc) b (b - a) in
+    let h = along s f n u c (b - a) b a (omega arith) m (suc k) (omega arith) (omega arith) in
+    let l = c .link a k (omega arith) in
+    let r = rises-by s f good (k - m) m k (omega arith) (c .node a) (c .small a (omega arith)) in
+    let g : round s f (suc k) (c .node a) ≤ℤ (round s f m (c .node a) +ℤ gain f p) = rw (t .same) (rw (t .same) at (h .gains)) in
+    let grows : pos 0 <ℤ gain f p = omega (ints, g, r, l .rose, sum (round s f m (c .node a)) (gain f p)) in
+    record {
+      ring = record {
+        start = c .node b;
+        path = p;
+        some = grows-some f p grows;
+        closed = rw (t .same) at (h .walk);
+        distinct = leaves-distinct s f n u c (b - a) b a (omega arith) (omega arith) (twice-apart (c .node) (suc n) t);
+      };
+      grows = grows;
+    }
+
+pub growing : (s : Side) (f : Flow) → Good f → (n u : ℕ) → u < f .nodes →
+    round s f n u <ℤ round s f (suc n) u → f .nodes ≤ suc n → GrowingRing f
+growing s f good n u l h big =
+    let c = chain s f good (suc n) u l h in
+    closes s f good (suc n) u c (pigeons (f .nodes) (suc (suc n)) (c .node) (λ i k. c .small i (omega arith)) (omega arith))

@@ -1,0 +1,15 @@
+pub mod Below
+pub mod Sides
+pub mod Arrival
+pub mod Next
+pub mod Within
+pub mod Rounds
+pub mod Room
+pub mod Windows
+pub mod Walks
+pub mod Chain
+pub mod Settles
+pub mod Rank
+pub mod Agree
+pub mod Sizes
+pub mod Example

@@ -1,0 +1,4 @@
+pub mod Flow
+pub mod Bounds
+pub mod Walk
+pub mod Rank

@@ -1,0 +1,4 @@
+pub mod Ints
+pub mod Order
+pub mod Extremes
+pub mod Raised
