@@ -1,0 +1,6 @@
+pub mod Words
+pub mod Checks
+pub mod Outcomes
+pub mod Computes
+pub mod Known
+pub mod Mistakes

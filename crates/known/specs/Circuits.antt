@@ -1,0 +1,118 @@
+-- The circuits with known numbers of document 01, as the bytes of their images, and what is known of each. (P6 is a path question.)
+use mathlib.Core.List.{List, [], _∷_}
+use Prim.Native.Nat.{ℕ}
+use lib.IntN.{ℤ, pos, negℤ}
+use Rattle.circuit.specs.Times.{mark}
+use Rattle.known.specs.Layout.{Window, _to_, phase, latch, flipFlop, arc, image}
+
+-- the ring: the latches' delays, the windows of arc 0 and arc 1
+abbrev pub ring : Window → Window → Window → List ℕ
+ring delays back forth =
+    image 100 (phase 50 40 ∷ phase 100 40 ∷ []) (latch 0 10 5 delays ∷ latch 1 10 5 delays ∷ []) (arc 1 0 back ∷ arc 0 1 forth ∷ [])
+
+unfoldable pub p1 : List ℕ
+p1 = ring (5 to 10) (10 to 20) (20 to 60)
+
+unfoldable pub p2 : List ℕ
+p2 = ring (5 to 10) (10 to 20) (20 to 61)
+
+unfoldable pub p3 : List ℕ
+p3 = ring (5 to 10) (10 to 10) (20 to 70)
+
+unfoldable pub p4 : List ℕ
+p4 = ring (5 to 10) (0 to 0) (20 to 80)
+
+unfoldable pub p5 : List ℕ
+p5 = ring (10 to 10) (20 to 20) (60 to 60)
+
+-- two flip-flops: the window of the arc between them
+abbrev pub flipFlops : Window → List ℕ
+flipFlops window =
+    image 100 (phase 100 50 ∷ []) (flipFlop 0 10 10 (8 to 8) ∷ flipFlop 0 10 10 (8 to 8) ∷ []) (arc 0 1 window ∷ [])
+
+unfoldable pub p7 : List ℕ
+p7 = flipFlops (2 to 80)
+
+unfoldable pub p8 : List ℕ
+p8 = flipFlops (1 to 80)
+
+-- a chain of latches on one phase
+unfoldable pub p9 : List ℕ
+p9 = image 100
+    (phase 100 40 ∷ [])
+    (latch 0 0 0 (0 to 0) ∷ latch 0 0 0 (0 to 0) ∷ latch 0 0 0 (0 to 0) ∷ [])
+    (arc 0 1 (100 to 130) ∷ arc 1 2 (100 to 130) ∷ [])
+
+unfoldable pub p10 : List ℕ
+p10 = image 100 (phase 100 40 ∷ []) [] []
+
+pub data Outcome : Type 0 where
+  -- the six results of each synchronizer, how many setups and how many holds are missed
+  timed : List ℤ → ℕ → ℕ → Outcome
+  -- the arcs of a growing ring in order of travel, the first leaving its lowest-numbered synchronizer, and the ring's gain
+  growing : List ℕ → ℤ → Outcome
+
+pub record Known : Type 0 where
+  -- P1 is 1
+  pub number : ℕ
+  pub bytes : List ℕ
+  pub outcome : Outcome
+
+abbrev pub minus : ℕ → ℤ
+minus n = negℤ (pos n)
+
+unfoldable pub known : List Known
+known =
+    record {
+      number = 1;
+      bytes = p1;
+      outcome = timed (
+          pos 60 ∷ pos 60 ∷ pos 25 ∷ pos 60 ∷ pos 20 ∷ pos 30 ∷
+          pos 60 ∷ pos 80 ∷ pos 35 ∷ pos 80 ∷ pos 30 ∷ pos 10 ∷ []) 0 0;
+    } ∷
+    record { number = 2; bytes = p2; outcome = growing (1 ∷ 0 ∷ []) (pos 1) } ∷
+    record {
+      number = 3;
+      bytes = p3;
+      outcome = timed (
+          pos 60 ∷ pos 60 ∷ pos 25 ∷ pos 60 ∷ pos 20 ∷ pos 30 ∷
+          pos 60 ∷ pos 90 ∷ pos 35 ∷ pos 90 ∷ pos 30 ∷ pos 0 ∷ []) 0 0;
+    } ∷
+    record {
+      number = 4;
+      bytes = p4;
+      outcome = timed (
+          pos 60 ∷ pos 60 ∷ pos 15 ∷ pos 60 ∷ pos 10 ∷ pos 30 ∷
+          pos 60 ∷ pos 100 ∷ pos 35 ∷ pos 100 ∷ pos 30 ∷ minus 10 ∷ []) 1 0;
+    } ∷
+    record {
+      number = 5;
+      bytes = p5;
+      outcome = timed (
+          pos 60 ∷ pos 60 ∷ pos 60 ∷ pos 60 ∷ pos 55 ∷ pos 30 ∷
+          pos 80 ∷ pos 80 ∷ pos 80 ∷ pos 80 ∷ pos 75 ∷ pos 10 ∷ []) 0 0;
+    } ∷
+    record {
+      number = 7;
+      bytes = p7;
+      outcome = timed (
+          pos 100 ∷ pos 100 ∷ mark ∷ mark ∷ mark ∷ mark ∷
+          pos 100 ∷ pos 100 ∷ pos 10 ∷ pos 88 ∷ pos 0 ∷ pos 2 ∷ []) 0 0;
+    } ∷
+    record {
+      number = 8;
+      bytes = p8;
+      outcome = timed (
+          pos 100 ∷ pos 100 ∷ mark ∷ mark ∷ mark ∷ mark ∷
+          pos 100 ∷ pos 100 ∷ pos 9 ∷ pos 88 ∷ minus 1 ∷ pos 2 ∷ []) 0 1;
+    } ∷
+    record {
+      number = 9;
+      bytes = p9;
+      outcome = timed (
+          pos 60 ∷ pos 60 ∷ mark ∷ mark ∷ mark ∷ mark ∷
+          pos 60 ∷ pos 90 ∷ pos 60 ∷ pos 90 ∷ pos 60 ∷ pos 10 ∷
+          pos 60 ∷ pos 120 ∷ pos 60 ∷ pos 120 ∷ pos 60 ∷ minus 20 ∷ []) 1 0;
+    } ∷
+    record { number = 10; bytes = p10; outcome = timed [] 0 0 } ∷
+    []

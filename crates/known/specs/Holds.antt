@@ -1,0 +1,45 @@
+-- What it means that an image has the outcome that is known of it, by the definitions of the circuit and its times.
+use mathlib.Core.Path.{_≡_}
+use mathlib.Core.List.{List, [], _∷_}
+use Prim.Native.Nat.{ℕ, _≤_}
+use lib.IntN.{ℤ}
+use Rattle.image.specs.Checks.{checkOf}
+use Rattle.image.specs.Valid.{imageIn}
+use Rattle.image.specs.declared.checks.Checked.the-variants.{Good}
+use Rattle.flow.specs.Flow.{late}
+use Rattle.flow.specs.Walk as walk
+use Rattle.flow.specs.Walk.{GrowingRing, sources, gain}
+use Rattle.circuit.specs.Circuit.{Circuit, circuitOf}
+use Rattle.circuit.specs.Clock.{flow}
+use Rattle.circuit.specs.Times.{Times, Growing, results, missedSetups, missedHolds}
+use Rattle.known.specs.Circuits.{Outcome, timed, growing, Known}
+
+-- the least departures give these results and these counts
+pub record Timed (c : Circuit) (numbers : List ℤ) (setups holds : ℕ) : Type 0 where
+  pub soonest : ℕ → ℤ
+  pub latest : ℕ → ℤ
+  pub times : Times c soonest latest
+  pub gives : results c soonest latest (c .synchronizers) ≡ numbers
+  pub setups-missed : missedSetups c latest ≡ setups
+  pub holds-missed : missedHolds c soonest ≡ holds
+
+-- no late departures fit, and these arcs are a ring with that gain, above zero. The first leaves its lowest-numbered synchronizer
+pub record Grows (c : Circuit) (arcs : List ℕ) (total : ℤ) : Type 0 where
+  pub never : Growing c
+  pub loop : GrowingRing (flow late c)
+  pub path : loop .ring .path ≡ arcs
+  pub lowest : walk.Every (λ i. loop .ring .start ≤ i) (sources (flow late c) arcs)
+  pub gains : gain (flow late c) arcs ≡ total
+
+abbrev pub Comes : Circuit → Outcome → Type 0
+Comes c (timed numbers setups holds) = Timed c numbers setups holds
+Comes c (growing arcs total) = Grows c arcs total
+
+-- the image is accepted, and its circuit comes out as known
+pub record Holds (k : Known) : Type 0 where
+  pub accepted : checkOf (k .bytes) ≡ Good (imageIn (k .bytes))
+  pub comes : Comes (circuitOf (k .bytes)) (k .outcome)
+
+abbrev pub Every : (Known → Type 0) → List Known → Type 0
+Every P [] = Unit {0}
+Every P (k ∷ ks) = P k × Every P ks
