@@ -13,3 +13,4 @@ pub mod Rank
 pub mod Agree
 pub mod Sizes
 pub mod Example
+pub mod Joined

@@ -236,3 +236,6 @@ module _ (bytes : List ℕ) where
 -- an image is accepted exactly where it is valid, and then the answer is what its header says
 pub accepts : (bytes : List ℕ) → Valid bytes ↔ (checkOf bytes ≡ Good (imageIn bytes))
 accepts bytes = (λ v. accepted bytes (fails bytes v), λ h. valid bytes (passed bytes _ h))
+
+pub accepted-is : (bytes : List ℕ) (x : Image) → checkOf bytes ≡ Good x → x ≡ imageIn bytes
+accepted-is bytes x h = let k = accepted bytes (passed bytes x h) in cc

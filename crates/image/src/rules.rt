@@ -18,13 +18,13 @@ pub enum Rule {
     Order,
 }
 
-pub fn bad_cycle(header: Header) -> bool
+pub(crate) fn bad_cycle(header: Header) -> bool
     ensures { λ r. ⌜ r ≡ badCycle header ⌝ }
 {
     (header.cycle < 1) | (Image::LONGEST_CYCLE < header.cycle)
 }
 
-pub fn bad_counts(header: Header) -> bool
+pub(crate) fn bad_counts(header: Header) -> bool
     ensures { λ r. ⌜ r ≡ badCounts header ⌝ }
 {
     (header.phases < 1)
@@ -33,7 +33,7 @@ pub fn bad_counts(header: Header) -> bool
         | (Image::MOST_ARCS < header.arcs)
 }
 
-pub fn bad_layout(header: Header, length: u64) -> bool
+pub(crate) fn bad_layout(header: Header, length: u64) -> bool
     ensures { λ r. ⌜ r ≡ badLayout header length ⌝ }
 {
     let k = header.phases;
@@ -107,7 +107,7 @@ fn breaks(bytes: &[u8], image: Image, rule: Rule, i: u32) -> bool
 }
 
 // The lowest record that breaks a rule, or the count where none does.
-pub fn lowest(bytes: &[u8], image: Image, rule: Rule, count: u32) -> u32
+pub(crate) fn lowest(bytes: &[u8], image: Image, rule: Rule, count: u32) -> u32
     ensures { λ r. ⌜ r ≡ lowestOf (breaksOf (now (bytes .entry)) image rule) count ⌝ }
 {
     let mut i: u32 = 0;

@@ -4,3 +4,4 @@ pub mod Outcomes
 pub mod Computes
 pub mod Known
 pub mod Mistakes
+pub mod Answered

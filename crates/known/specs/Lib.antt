@@ -1,3 +1,4 @@
 pub mod Layout
 pub mod Circuits
 pub mod Holds
+pub mod Answers

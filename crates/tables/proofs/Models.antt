@@ -1,0 +1,98 @@
+-- Tables that hold a flow reckon what the flow defines: arrivals, departures and rounds are the flow's, raised.
+use mathlib.Core.Path.{_≡_, refl, sym, ap, _∙_}
+use mathlib.Core.Bool.{Bool, true, false, cond}
+use mathlib.Core.Logic.{_⊎_, inl, inr, _≢_}
+use Prim.Native.Nat.{ℕ, zero, suc, _+_, _-_, _<_, _≤_, max, min}
+use native.Mathlib.Omega.{arith}
+use native.Mathlib.Numerals.{add-one}
+use lib.Dec.{eqb, ltb}
+use lib.IntN.{ℤ, pos, subℕ, _+ℤ_}
+use lib.Signed.{_≤ℤ_}
+use borrow.Author.Tests.{eq-eqb, ne-eqb, eqb-true, eqb-false}
+use Rattle.ticks.specs.Raised.{RAISE, lower}
+use Rattle.ticks.specs.Extremes.{maxℤ, minℤ}
+use Rattle.ticks.proofs.Ints.{ints, sum, apart}
+use Rattle.ticks.proofs.Raised.{span, lower-max, lower-min}
+use Rattle.flow.specs.Flow.{Flow, Good, Side, late, early, When, none, at, pick, join, brings, into, arrival, departs, next, round}
+use Rattle.tables.specs.Models.{Models}
+use Rattle.tables.specs.Net.{Net, brought, better, unseen, best, degree, arrivalN, departing, departN, Ranged}
+
+-- what k arcs give: none, or a time
+abbrev whenOf : ℕ → ℕ → When
+whenOf zero t = none
+whenOf (suc k) t = at (lower t)
+
+-- the times that raised ones stand for
+abbrev pub lowered : (ℕ → ℕ) → ℕ → ℤ
+lowered D i = lower (D i)
+
+better-lower : (s : Side) (a b : ℕ) → lower (better s a b) ≡ pick s (lower a) (lower b)
+better-lower late a b = lower-max a b
+better-lower early a b = lower-min a b
+
+-- the first arc is taken
+first-better : (s : Side) (b : ℕ) → b < 9223372036854775808 → better s (unseen s) b ≡ b
+first-better late b l = omega arith
+first-better early b l = omega arith
+
+module _ (s : Side) (n : Net) (f : Flow) (good : Good f) (models : Models n f) (D : ℕ → ℕ) (ranged : Ranged (f .nodes) D) where
+  brought-lower : (a : ℕ) → a < f .arcs → lower (brought (n .arcs) D a) ≡ brings f (lowered D) a
+  brought-lower a l =
+      let x = D (f .source a) in
+      let h = ranged .low (f .source a) (good .leaves a l) in
+      rw (models .source a l, ← models .weight a l)
+      (omega (ints, models .cycle, span x, span (x + n .arcs .lead a - n .arcs .cycle), apart (n .arcs .lead a) (n .arcs .cycle), sum (lower x) (subℕ (n .arcs .lead a) (n .arcs .cycle))))
+
+  brought-small : (a : ℕ) → a < f .arcs → brought (n .arcs) D a < 9223372036854775808
+  brought-small a l = rw (models .source a l) (omega (arith, models .small a l, ranged .high (f .source a) (good .leaves a l)))
+
+  module _ (i : ℕ) (here : i < f .nodes) where
+    -- arcs that do not enter i bring it nothing
+    into-before : (k : ℕ) → k ≤ n .first i → into s f (lowered D) i k ≡ none
+    unfolding into
+    into-before zero l = refl
+    into-before (suc k) l =
+        let no : f .target k ≢ i = λ e. let h = models .outside i k here (omega (arith, models .rises i here, models .within i here)) e in
+        omega (arith, h .0) in
+        rw (ne-eqb (f .target k) i no) (into-before k (omega arith))
+
+    into-here : (k : ℕ) → n .first i + k ≤ n .first (i + 1) → into s f (lowered D) i (n .first i + k) ≡ whenOf k (best s (n .arcs) D (n .first i) k)
+    unfolding into best
+    into-here zero l = let e : n .first i + 0 ≡ n .first i = omega arith in rw e (into-before (n .first i) (omega arith))
+    into-here (suc k) l =
+        let a = n .first i + k in
+        let m : a < f .arcs = omega (arith, models .within i here) in
+        let e : n .first i + suc k ≡ suc a = omega arith in
+        let h = into-here k (omega arith) in
+        rw (e, eq-eqb (f .target a) i (models .inside i a here (omega arith) (omega arith)), h, ← brought-lower a m) (step k a m)
+      where
+        step : (k a : ℕ) → a < f .arcs →
+            join s true (lower (brought (n .arcs) D a)) (whenOf k (best s (n .arcs) D (n .first i) k)) ≡ at (lower (better s (best s (n .arcs) D (n .first i) k) (brought (n .arcs) D a)))
+        step zero a m = ap (λ (x : ℕ). at (lower x)) (sym (first-better s (brought (n .arcs) D a) (brought-small a m)))
+        step (suc k) a m = ap at (sym (better-lower s _ _))
+
+    into-after : (d k : ℕ) → n .first (i + 1) + d ≡ k → k ≤ f .arcs → into s f (lowered D) i k ≡ into s f (lowered D) i (n .first (i + 1))
+    unfolding into
+    into-after zero k e l = let h : k ≡ n .first (i + 1) = omega arith in rw h
+    into-after (suc d) zero e l = let z : ⊥ = omega arith in absurd z
+    into-after (suc d) (suc k) e l =
+        let no : f .target k ≢ i = λ q. let h = models .outside i k here (omega arith) q in omega (arith, h .1) in
+        rw (ne-eqb (f .target k) i no) (into-after d k (omega arith) (omega arith))
+
+    pub arrival-models : arrival s f (lowered D) i ≡ whenOf (degree n i) (arrivalN s n D i)
+    unfolding arrival
+    arrival-models =
+        let e : n .first i + degree n i ≡ n .first (i + 1) = omega (arith, models .rises i here) in
+        into-after (f .arcs - n .first (i + 1)) (f .arcs) (omega (arith, models .within i here)) (omega arith)
+        ∙ ap (into s f (lowered D) i) (sym e)
+        ∙ into-here (degree n i) (omega arith)
+
+    pub depart-models : lower (departN s n D i) ≡ next s f (lowered D) i
+    unfolding departN next
+    depart-models = rw (arrival-models, ← models .latch i here, ← models .launch i here) (go (n .latch i) (degree n i))
+      where
+        go : (b : Bool) (k : ℕ) →
+            lower (departing b k (arrivalN s n D i) (n .launch i)) ≡ departs b (lower (n .launch i)) (whenOf k (arrivalN s n D i))
+        go false k = refl
+        go true zero = refl
+        go true (suc k) = rw (ne-eqb (suc k) 0 (λ e. omega arith)) (lower-max _ _)

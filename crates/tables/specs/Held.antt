@@ -1,0 +1,48 @@
+-- What timing needs to know of tables that hold a flow, and what it shows of a growing one.
+use mathlib.Core.Path.{_≡_}
+use mathlib.Core.Bool.{Bool, true, false}
+use mathlib.Core.List.{List, _++_}
+use Prim.Native.Nat.{ℕ, suc, _≤_, _<_}
+use lib.IntN.{ℤ}
+use lib.ListN.{length, drop}
+use Rattle.ticks.specs.Raised.{lower}
+use Rattle.flow.specs.Flow.{Flow, Good, Side, round}
+use Rattle.flow.specs.Walk.{Every, sources, gain, GrowingRing}
+use Rattle.tables.specs.Net.{Net, roundN, Shaped, Ranged}
+use Rattle.tables.specs.Models.{Models}
+
+-- the tables of l nodes and m arcs hold the flow f, and their rounds are its rounds, raised
+pub record Held (s : Side) (n : Net) (l m : ℕ) (f : Flow) : Type 0 where
+  pub nodes : f .nodes ≡ l
+  pub arcs : f .arcs ≡ m
+  pub good : Good f
+  pub models : Models n f
+  pub rounds : (k i : ℕ) → k ≤ l → i < l → lower (roundN s n k i) ≡ round s f k i
+
+-- the tables can be worked with, for as many rounds as there are nodes
+pub record Tame (s : Side) (n : Net) (l m : ℕ) : Type 0 where
+  pub shaped : Shaped n l m
+  pub ranged : (k : ℕ) → k ≤ l → Ranged l (roundN s n k)
+
+-- round k + 1 changes a node, as late as there are nodes
+pub record Unsettled (s : Side) (n : Net) (l : ℕ) : Type 0 where
+  pub last : ℕ
+  pub late : l ≡ suc last
+  pub node : ℕ
+  pub here : node < l
+  pub changed : roundN s n last node ≡ roundN s n l node → ⊥
+
+-- what working the rounds out comes to: they settle by round l, at the least departures, or round l still changes a node
+pub data Settling (s : Side) (n : Net) (l : ℕ) (D : ℕ → ℕ) : Bool → Type 0 where
+  settled : (k : ℕ) → k ≤ l → ((i : ℕ) → i < l → D i ≡ roundN s n k i) →
+      ((i : ℕ) → i < l → roundN s n (suc k) i ≡ roundN s n k i) → Settling s n l D true
+  unsettled : Unsettled s n l → Settling s n l D false
+
+-- a growing ring as it is shown: the arcs in order of travel at the front of the buffer, the first leaving the ring's lowest-numbered
+-- node, the rest of the buffer as it was
+pub record Shown (f : Flow) (count : ℕ) (total : ℤ) (before after : List ℕ) : Type 0 where
+  pub grows : GrowingRing f
+  pub lowest : Every (λ i. grows .ring .start ≤ i) (sources f (grows .ring .path))
+  pub counted : count ≡ length (grows .ring .path)
+  pub gains : total ≡ gain f (grows .ring .path)
+  pub written : after ≡ grows .ring .path ++ drop (length (grows .ring .path)) before

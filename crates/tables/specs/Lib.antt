@@ -1,0 +1,3 @@
+pub mod Net
+pub mod Models
+pub mod Held

@@ -1,0 +1,52 @@
+-- The loaded tables hold the circuit's flows, late and early, and stay within their bounds.
+use mathlib.Core.Path.{_≡_}
+use mathlib.Core.List.{List}
+use Prim.Native.Nat.{ℕ, _<_}
+use native.Mathlib.Omega.{arith}
+use lib.ListN.{getD}
+use Rattle.image.specs.Valid.{Valid, imageIn}
+use Rattle.image.specs.declared.kind.Image.{Image}
+use Rattle.flow.specs.Flow.{Side, late, early}
+use Rattle.circuit.specs.Circuit.{Circuit, circuitOf}
+use Rattle.circuit.specs.Clock.{flow}
+use Rattle.circuit.proofs.Sound.{sound}
+use Rattle.tables.specs.Net.{arcsOf, netOf, Shaped}
+use Rattle.tables.specs.Models.{Models}
+use Rattle.timing.specs.Loaded.{Leads, LoadedNodes, LoadedArcs, LoadedFirst, leadsOf}
+use Rattle.timing.proofs.Read.{counts}
+
+-- the leads of either side
+leads-held : (s : Side) (c : Circuit) (sources lates earlies : List ℕ) → LoadedArcs c sources lates earlies → (a : ℕ) → a < c .arcs →
+    Leads s c a (getD (leadsOf s lates earlies) a 0)
+leads-held late c sources lates earlies t a l = t .each a l .late
+leads-held early c sources lates earlies t a l = t .each a l .early
+
+module _ (bytes : List ℕ) (v : Valid bytes) (image : Image) (same : image ≡ imageIn bytes) (s : Side)
+    (sources lates earlies first launches latches : List ℕ) (nodes : LoadedNodes (circuitOf bytes) launches latches)
+    (arcs : LoadedArcs (circuitOf bytes) sources lates earlies) (firsts : LoadedFirst (circuitOf bytes) first) where
+  pub held : Models (netOf (arcsOf sources (leadsOf s lates earlies) (image .cycle)) first launches latches) (flow s (circuitOf bytes))
+  held = rw (counts bytes image same .cycle) (record {
+    source = λ a l. arcs .each a l .source;
+    weight = λ a l. leads-held s _ _ _ _ arcs a l .weight;
+    small = λ a l. leads-held s _ _ _ _ arcs a l .small;
+    cycle = omega (arith, sound bytes v .cycle);
+    launch = λ i l. nodes .each i l .launch;
+    latch = λ i l. nodes .each i l .latch;
+    rises = firsts .rises;
+    within = firsts .within;
+    inside = firsts .inside;
+    outside = firsts .outside;
+  })
+
+  pub held-shape : Shaped (netOf (arcsOf sources (leadsOf s lates earlies) (image .cycle)) first launches latches) (image .synchronizers) (image .arcs)
+  held-shape =
+      let c = sound bytes v in
+      let n = counts bytes image same in
+      rw (n .cycle, n .synchronizers, n .arcs) (record {
+        nodes = c .synchronizers;
+        count = c .arcs;
+        sources = λ a l. rw (arcs .each a l .source) (c .from a l);
+        rises = firsts .rises;
+        ends = firsts .within;
+        cycle = omega (arith, c .cycle);
+      })

@@ -1,0 +1,31 @@
+-- The laws that timing's proofs share.
+-- walks over arcs, and rounds
+pub mod Reach
+pub mod Settling
+-- loading
+pub mod Read
+pub mod Shifts
+pub mod Launches
+pub mod Leading
+pub mod Storing
+pub mod Splitting
+pub mod Held
+-- results
+pub mod Arrivals
+pub mod Entering
+pub mod Six
+pub mod Slack
+pub mod Writing
+-- the growing ring
+pub mod Taken
+pub mod Route
+pub mod Places
+pub mod Kept
+pub mod Noted
+pub mod Back
+pub mod Trail
+pub mod Showing
+pub mod Replayed
+-- the call, and what its promise leaves open
+pub mod Work
+pub mod Only

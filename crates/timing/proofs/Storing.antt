@@ -1,0 +1,37 @@
+-- One more record stored: what holds of the tables' first n places holds of the first n + 1.
+use mathlib.Core.Path.{_≡_, _∙_}
+use mathlib.Core.List.{List}
+use Prim.Native.Nat.{ℕ, _+_, _<_}
+use native.Mathlib.Omega.{arith}
+use lib.ListN.{length, getD, set, length-set}
+use lib.Seq.{getD-set-same, getD-set-other}
+use borrow.Author.Count.{below-more}
+use Rattle.circuit.specs.Circuit.{Circuit}
+use Rattle.timing.specs.Loaded.{Launched, NodesUpTo, Led, ArcsUpTo}
+
+pub kept : (l : List ℕ) (n v j : ℕ) → j < n → getD (set l n v) j 0 ≡ getD l j 0
+kept l n v j h = getD-set-other l n j v 0 (λ e. omega arith)
+
+pub stored : (l : List ℕ) (n v : ℕ) → n < length l → getD (set l n v) n 0 ≡ v
+stored l n v h = getD-set-same l n v 0 h
+
+pub sized : (l : List ℕ) (n v m : ℕ) → length l ≡ m → length (set l n v) ≡ m
+sized l n v m e = length-set l n v ∙ e
+
+pub nodes-more : (c : Circuit) (n : ℕ) (launches latches : List ℕ) (x y : ℕ) → NodesUpTo n c launches latches → n < 512 → Launched c n x y →
+    NodesUpTo (n + 1) c (set launches n x) (set latches n y)
+nodes-more c n launches latches x y t l new = record {
+  long = (sized launches n x 512 (t .long .0), sized latches n y 512 (t .long .1));
+  each = below-more _ n
+      (λ i h. rw (kept launches n x i h, kept latches n y i h) (t .each i h))
+      (rw (stored launches n x (omega (arith, t .long .0)), stored latches n y (omega (arith, t .long .1))) new);
+}
+
+pub arcs-more : (c : Circuit) (n : ℕ) (sources lates earlies : List ℕ) (x y z : ℕ) → ArcsUpTo n c sources lates earlies → n < 2048 → Led c n x y z →
+    ArcsUpTo (n + 1) c (set sources n x) (set lates n y) (set earlies n z)
+arcs-more c n sources lates earlies x y z t l new = record {
+  long = (sized sources n x 2048 (t .long .0), sized lates n y 2048 (t .long .1), sized earlies n z 2048 (t .long .2));
+  each = below-more _ n
+      (λ a h. rw (kept sources n x a h, kept lates n y a h, kept earlies n z a h) (t .each a h))
+      (rw (stored sources n x (omega (arith, t .long .0)), stored lates n y (omega (arith, t .long .1)), stored earlies n z (omega (arith, t .long .2))) new);
+}

@@ -1,0 +1,6 @@
+pub mod Ready
+pub mod Loaded
+pub mod Results
+pub mod Ring
+pub mod Told
+pub mod Promise

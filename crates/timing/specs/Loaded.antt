@@ -1,0 +1,74 @@
+-- What the loaded tables hold of a circuit, and what is loaded at each step. A table is a list, and reads 0 past its end.
+use mathlib.Core.Path.{_≡_}
+use mathlib.Core.List.{List}
+use Prim.Native.Nat.{ℕ, _+_, _≤_, _<_}
+use lib.Dec.{eqb}
+use lib.IntN.{subℕ}
+use lib.ListN.{length, getD}
+use Rattle.ticks.specs.Raised.{RAISE, lower}
+use Rattle.flow.specs.Flow.{Side, late, early}
+use Rattle.circuit.specs.Circuit.{Circuit}
+use Rattle.circuit.specs.Clock.{isLatch, launch, weight}
+
+-- a synchronizer: its launch, raised, and 1 for a latch
+pub record Launched (c : Circuit) (i at mark : ℕ) : Type 0 where
+  pub launch : lower at ≡ launch c i
+  pub latch : eqb mark 1 ≡ isLatch c i
+
+-- the first n synchronizers are loaded, and the tables have kept their sizes
+pub record NodesUpTo (n : ℕ) (c : Circuit) (launches latches : List ℕ) : Type 0 where
+  pub long : (length launches ≡ 512) × (length latches ≡ 512)
+  pub each : (i : ℕ) → i < n → Launched c i (getD launches i 0) (getD latches i 0)
+
+abbrev pub LoadedNodes : Circuit → List ℕ → List ℕ → Type 0
+LoadedNodes c = NodesUpTo (c .synchronizers) c
+
+-- an arc's weight, late or early, with a cycle added
+pub record Leads (s : Side) (c : Circuit) (a lead : ℕ) : Type 0 where
+  pub weight : subℕ lead (c .cycle) ≡ weight s c a
+  pub small : lead < RAISE
+
+-- an arc: the synchronizer that it leaves, and its leads
+pub record Led (c : Circuit) (a left most least : ℕ) : Type 0 where
+  pub source : left ≡ c .from a
+  pub late : Leads late c a most
+  pub early : Leads early c a least
+
+-- the first n arcs are loaded, and the tables have kept their sizes
+pub record ArcsUpTo (n : ℕ) (c : Circuit) (sources lates earlies : List ℕ) : Type 0 where
+  pub long : (length sources ≡ 2048) × (length lates ≡ 2048) × (length earlies ≡ 2048)
+  pub each : (a : ℕ) → a < n → Led c a (getD sources a 0) (getD lates a 0) (getD earlies a 0)
+
+abbrev pub LoadedArcs : Circuit → List ℕ → List ℕ → List ℕ → Type 0
+LoadedArcs c = ArcsUpTo (c .arcs) c
+
+-- the table of leads of either side
+abbrev pub leadsOf : Side → List ℕ → List ℕ → List ℕ
+leadsOf late lates earlies = lates
+leadsOf early lates earlies = earlies
+
+-- arcs before arc x enter synchronizers below i, all others do not
+pub record Splits (c : Circuit) (i x : ℕ) : Type 0 where
+  pub within : x ≤ c .arcs
+  pub below : (a : ℕ) → a < x → c .to a < i
+  pub above : (a : ℕ) → x ≤ a → a < c .arcs → i ≤ c .to a
+
+-- the arcs into i are those from first i up to first (i + 1)
+pub record LoadedFirst (c : Circuit) (first : List ℕ) : Type 0 where
+  pub long : length first ≡ 513
+  pub rises : (i : ℕ) → i < c .synchronizers → getD first i 0 ≤ getD first (i + 1) 0
+  pub within : (i : ℕ) → i < c .synchronizers → getD first (i + 1) 0 ≤ c .arcs
+  pub inside : (i a : ℕ) → i < c .synchronizers → getD first i 0 ≤ a → a < getD first (i + 1) 0 → c .to a ≡ i
+  pub outside : (i a : ℕ) → i < c .synchronizers → a < c .arcs → c .to a ≡ i →
+      (getD first i 0 ≤ a) × (a < getD first (i + 1) 0)
+
+-- tables of the right sizes, and all of them loaded
+pub record Sized (sources lates earlies first launches latches : List ℕ) : Type 0 where
+  pub arcs : (length sources ≡ 2048) × (length lates ≡ 2048) × (length earlies ≡ 2048)
+  pub firsts : length first ≡ 513
+  pub nodes : (length launches ≡ 512) × (length latches ≡ 512)
+
+pub record Loaded (c : Circuit) (sources lates earlies first launches latches : List ℕ) : Type 0 where
+  pub nodes : LoadedNodes c launches latches
+  pub arcs : LoadedArcs c sources lates earlies
+  pub firsts : LoadedFirst c first

@@ -1,0 +1,40 @@
+-- What keeps the tables' walks within their bounds.
+use mathlib.Core.Path.{_≡_}
+use mathlib.Core.Bool.{Bool}
+use mathlib.Core.List.{List}
+use Prim.Native.Nat.{ℕ, _≤_, _<_}
+use lib.ListN.{length, getD}
+use Rattle.ticks.specs.Raised.{RAISE}
+use Rattle.flow.specs.Flow.{Side}
+use Rattle.tables.specs.Held.{Tame}
+use Rattle.tables.specs.Net.{Net, departN, moves, anyOf, Shaped, Ranged}
+
+-- each of the first m arcs leaves a node with a time that can be reckoned with
+pub record Reachable (source departs : List ℕ) (m : ℕ) : Type 0 where
+  pub few : m ≤ 2048
+  pub inside : (a : ℕ) → a < m → getD source a 0 < 512
+  pub low : (a : ℕ) → a < m → RAISE ≤ getD departs (getD source a 0) 0
+  pub high : (a : ℕ) → a < m → getD departs (getD source a 0) 0 < 4611686018427387904
+
+-- the tables of l nodes can be worked with for l rounds
+pub record Ready (s : Side) (n : Net) (l : ℕ) : Type 0 where
+  pub arcs : ℕ
+  pub tame : Tame s n l arcs
+
+-- l nodes can be worked with, where they depart at D
+pub record Works (n : Net) (D : ℕ → ℕ) (l : ℕ) : Type 0 where
+  pub arcs : ℕ
+  pub shaped : Shaped n l arcs
+  pub ranged : Ranged l D
+
+-- and i is one of them
+pub record WorksAt (n : Net) (D : ℕ → ℕ) (i : ℕ) : Type 0 where
+  pub nodes : ℕ
+  pub works : Works n D nodes
+  pub here : i < nodes
+
+-- a round was worked out: the table holds what D leads to, and the flag says whether a node moved
+pub record Rounded (s : Side) (n : Net) (l : ℕ) (D : ℕ → ℕ) (flag : Bool) (table : List ℕ) : Type 0 where
+  pub long : length table ≡ 512
+  pub made : (i : ℕ) → i < l → getD table i 0 ≡ departN s n D i
+  pub moved : flag ≡ anyOf (moves s n D) l

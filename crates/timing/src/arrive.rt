@@ -1,0 +1,83 @@
+// What the arcs into a synchronizer bring it, on one side, and when it departs. Times are raised, so that none is below zero.
+ghost use mathlib.Core.Path.{_≡_};
+ghost use Prim.Native.Nat.{_+_, _-_, _≤_, _<_, max, min};
+ghost use lib.ListN.{getD};
+ghost use Rattle.ticks.specs.Raised.{RAISE};
+ghost use Rattle.tables.specs.Net.{sideOf, timesOf, arcsOf, netOf, brought, better, unseen, best, departing, departN, Shaped, Ranged};
+ghost use Rattle.timing.specs.Ready.{Reachable};
+
+pub(crate) fn wide(x: u32) -> u64
+    ensures { λ r. ⌜ (r ≡ x) × (r < 4294967296) ⌝ }
+{
+    x as u64
+}
+
+// A number of 16 bits as an index.
+pub(crate) fn place(x: u16) -> usize
+    ensures { λ r. ⌜ r ≡ x ⌝ }
+{
+    x as usize
+}
+
+pub(crate) fn bring(
+    source: &[u16; 2048],
+    lead: &[u32; 2048],
+    cycle: u32,
+    departs: &[u64; 512],
+    a: usize,
+) -> u64
+    requires { ⌜ a < 2048 ⌝ }
+    requires { ⌜ getD (now source) a 0 < 512 ⌝ }
+    requires { ⌜ (RAISE ≤ getD (now departs) (getD (now source) a 0) 0) × (getD (now departs) (getD (now source) a 0) 0 < 4611686018427387904) ⌝ }
+    ensures { λ r. ⌜ r ≡ brought (arcsOf (now (source .entry)) (now (lead .entry)) cycle) (timesOf (now (departs .entry))) a ⌝ }
+{
+    let from = source[a] as usize;
+    departs[from] + wide(lead[a]) - wide(cycle)
+}
+
+pub(crate) fn greater(a: u64, b: u64) -> u64
+    ensures { λ r. ⌜ r ≡ max a b ⌝ }
+{
+    if a < b { b } else { a }
+}
+
+fn lesser(a: u64, b: u64) -> u64
+    ensures { λ r. ⌜ r ≡ min a b ⌝ }
+{
+    if b < a { b } else { a }
+}
+
+fn choose(late: bool, a: u64, b: u64) -> u64
+    ensures { λ r. ⌜ r ≡ better (sideOf late) a b ⌝ }
+{
+    if late { greater(a, b) } else { lesser(a, b) }
+}
+
+fn none_yet(late: bool) -> u64
+    ensures { λ r. ⌜ r ≡ unseen (sideOf late) ⌝ }
+{
+    if late { 0 } else { 9223372036854775808 }
+}
+
+// The best of the arcs from `from` up to `to`: the last time that they bring for the late side, the first for the early one.
+pub(crate) fn arrival(
+    late: bool,
+    source: &[u16; 2048],
+    lead: &[u32; 2048],
+    cycle: u32,
+    departs: &[u64; 512],
+    from: usize,
+    to: usize,
+) -> u64
+    requires { ⌜ from ≤ to ⌝ }
+    requires { ⌜ Reachable (now source) (now departs) to ⌝ }
+    ensures { λ r. ⌜ r ≡ best (sideOf late) (arcsOf (now (source .entry)) (now (lead .entry)) cycle) (timesOf (now (departs .entry))) from (to - from) ⌝ }
+{
+    let mut best = none_yet(late);
+    let mut a = from;
+    while a < to {
+        best = choose(late, best, bring(source, lead, cycle, departs, a));
+        a += 1;
+    }
+    best
+}

@@ -1,0 +1,164 @@
+// The call that everything is for.
+ghost use mathlib.Core.Path.{_≡_};
+ghost use Prim.Native.Nat.{_*_, _≤_};
+ghost use lib.ListN.{length};
+ghost use Rattle.flow.specs.Flow as side;
+ghost use Rattle.image.specs.Checks.{checkOf};
+ghost use Rattle.circuit.specs.Circuit.{circuitOf};
+ghost use Rattle.image.specs.Valid.{Valid, imageIn};
+ghost use Rattle.image.specs.declared.checks.Checked.the-variants as check;
+ghost use Rattle.timing.specs.Loaded.{Sized, Loaded};
+ghost use Rattle.timing.specs.Promise.{Served, Timing};
+ghost use Rattle.timing.specs.Told.{Known, Told};
+use crate::load::load_arcs;
+use crate::load::load_first;
+use crate::load::load_nodes;
+use crate::results::Missed;
+use crate::results::write_results;
+use crate::ring::find;
+use crate::rounds::settle;
+use image::Checked;
+use image::Image;
+
+// Refused, with document 01's number and record; a growing loop, with the number of its arcs and its gain; or timed, with the numbers
+// of missed setups and of missed holds.
+pub enum Answer {
+    Refused(u32, u32),
+    Growing(u32, i64),
+    Timed(u32, u32),
+}
+
+// Fills the tables from a good image.
+fn load(
+    bytes: &[u8],
+    image: Image,
+    source: &mut [u16; 2048],
+    late: &mut [u32; 2048],
+    early: &mut [u32; 2048],
+    first: &mut [u16; 513],
+    launch: &mut [u64; 512],
+    latch: &mut [u8; 512],
+)
+    requires { ⌜ Valid (now bytes) × (image ≡ imageIn (now bytes)) ⌝ }
+    requires { ⌜ Sized (now source) (now late) (now early) (now first) (now launch) (now latch) ⌝ }
+    ensures { λ _. ⌜ Loaded (circuitOf (now (bytes .entry))) (now (source .exit)) (now (late .exit)) (now (early .exit)) (now (first .exit)) (now (launch .exit)) (now (latch .exit)) ⌝ }
+{
+    load_nodes(bytes, image, launch, latch);
+    load_arcs(bytes, image, source, late, early);
+    load_first(bytes, image, first);
+}
+
+// Where the late departures are known: works the early ones out, and writes the results.
+fn tell(
+    bytes: &[u8],
+    image: Image,
+    source: &[u16; 2048],
+    late: &[u32; 2048],
+    early: &[u32; 2048],
+    first: &[u16; 513],
+    launch: &[u64; 512],
+    latch: &[u8; 512],
+    later: &[u64; 512],
+    results: &mut [i64],
+) -> Missed
+    requires { ⌜ Valid (now bytes) × (image ≡ imageIn (now bytes)) ⌝ }
+    requires { ⌜ Loaded (circuitOf (now bytes)) (now source) (now late) (now early) (now first) (now launch) (now latch) ⌝ }
+    requires { ⌜ Known side.late (circuitOf (now bytes)) (now later) ⌝ }
+    requires { ⌜ 6 * image .synchronizers ≤ length (now results) ⌝ }
+    ensures { λ r. ⌜ Told (circuitOf (now (bytes .entry))) (now (later .entry)) (now (results .entry)) (now (results .exit)) r ⌝ }
+{
+    let sooner = settle(
+        false,
+        source,
+        early,
+        image.cycle,
+        first,
+        launch,
+        latch,
+        image.synchronizers as usize,
+    );
+    let starts = sooner.departs;
+    write_results(
+        bytes,
+        image,
+        source,
+        late,
+        early,
+        first,
+        later,
+        &starts,
+        results,
+    )
+}
+
+// A good image, and buffers that are long enough: load it, work out the late departures, and show the ring that grows or write the
+// results.
+fn work(bytes: &[u8], image: Image, results: &mut [i64], arcs: &mut [u32]) -> Answer
+    requires { ⌜ Served (now bytes) (now results) (now arcs) ⌝ }
+    requires { ⌜ image ≡ imageIn (now bytes) ⌝ }
+    ensures { λ r. ⌜ Timing (now (bytes .entry)) (now (results .entry)) (now (arcs .entry)) r (now (results .exit)) (now (arcs .exit)) ⌝ }
+{
+    let mut source = [0u16; 2048];
+    let mut late = [0u32; 2048];
+    let mut early = [0u32; 2048];
+    let mut first = [0u16; 513];
+    let mut launch = [0u64; 512];
+    let mut latch = [0u8; 512];
+    load(
+        bytes,
+        image,
+        &mut source,
+        &mut late,
+        &mut early,
+        &mut first,
+        &mut launch,
+        &mut latch,
+    );
+    let cycle = image.cycle;
+    let l = image.synchronizers as usize;
+    let later = settle(true, &source, &late, cycle, &first, &launch, &latch, l);
+    if !later.done {
+        let m = image.arcs as usize;
+        let shown = find(&source, &late, cycle, &first, &launch, &latch, l, m, arcs);
+        return Answer::Growing(shown.count, shown.gain);
+    }
+    let ends = later.departs;
+    let missed = tell(
+        bytes,
+        image,
+        &source,
+        &late,
+        &early,
+        &first,
+        &launch,
+        &latch,
+        &ends,
+        results,
+    );
+    Answer::Timed(missed.setups, missed.holds)
+}
+
+// A good image: are the buffers long enough?
+fn serve(bytes: &[u8], image: Image, results: &mut [i64], arcs: &mut [u32]) -> Answer
+    requires { ⌜ checkOf (now bytes) ≡ check.Good image ⌝ }
+    ensures { λ r. ⌜ Timing (now (bytes .entry)) (now (results .entry)) (now (arcs .entry)) r (now (results .exit)) (now (arcs .exit)) ⌝ }
+{
+    let l = image.synchronizers as usize;
+    if results.len() < 6 * l {
+        return Answer::Refused(10, 0);
+    }
+    if arcs.len() < l {
+        return Answer::Refused(11, 0);
+    }
+    work(bytes, image, results, arcs)
+}
+
+// Times a circuit. Every image gets an answer, and a refusal changes nothing that was lent.
+pub fn timing(bytes: &[u8], results: &mut [i64], arcs: &mut [u32]) -> Answer
+    ensures { λ r. ⌜ Timing (now (bytes .entry)) (now (results .entry)) (now (arcs .entry)) r (now (results .exit)) (now (arcs .exit)) ⌝ }
+{
+    match image::check(bytes) {
+        Checked::Refused(rule, culprit) => Answer::Refused(rule, culprit),
+        Checked::Good(image) => serve(bytes, image, results, arcs),
+    }
+}

@@ -1,0 +1,12 @@
+// The one place where signed numbers are made.
+ghost use mathlib.Core.Path.{_≡_};
+ghost use Prim.Native.Nat.{_<_};
+ghost use lib.IntN.{subℕ};
+
+// How far a lies after b.
+pub(crate) fn minus(a: u64, b: u64) -> i64
+    requires { ⌜ (a < 9223372036854775808) × (b < 9223372036854775808) ⌝ }
+    ensures { λ r. ⌜ r ≡ subℕ a b ⌝ }
+{
+    (a as i64) - (b as i64)
+}
