@@ -91,8 +91,49 @@ fn tell(
     )
 }
 
-// A good image, and buffers that are long enough: load it, work out the late departures, and show the ring that grows or write the
-// results.
+// Works out the late departures on loaded tables, and shows the ring that grows or writes the results. The buffers are long enough.
+fn decide(
+    bytes: &[u8],
+    image: Image,
+    source: &[u16; 2048],
+    late: &[u32; 2048],
+    early: &[u32; 2048],
+    first: &[u16; 513],
+    launch: &[u64; 512],
+    latch: &[u8; 512],
+    results: &mut [i64],
+    arcs: &mut [u32],
+) -> Answer
+    requires { ⌜ Served (now bytes) (now results) (now arcs) ⌝ }
+    requires { ⌜ image ≡ imageIn (now bytes) ⌝ }
+    requires { ⌜ Loaded (circuitOf (now bytes)) (now source) (now late) (now early) (now first) (now launch) (now latch) ⌝ }
+    ensures { λ r. ⌜ Timing (now (bytes .entry)) (now (results .entry)) (now (arcs .entry)) r (now (results .exit)) (now (arcs .exit)) ⌝ }
+{
+    let cycle = image.cycle;
+    let l = image.synchronizers as usize;
+    let later = settle(true, source, late, cycle, first, launch, latch, l);
+    if !later.done {
+        let m = image.arcs as usize;
+        let shown = find(source, late, cycle, first, launch, latch, l, m, arcs);
+        return Answer::Growing(shown.count, shown.gain);
+    }
+    let ends = later.departs;
+    let missed = tell(
+        bytes,
+        image,
+        source,
+        late,
+        early,
+        first,
+        launch,
+        latch,
+        &ends,
+        results,
+    );
+    Answer::Timed(missed.setups, missed.holds)
+}
+
+// Loads a good image into tables of its own. The buffers are long enough.
 fn work(bytes: &[u8], image: Image, results: &mut [i64], arcs: &mut [u32]) -> Answer
     requires { ⌜ Served (now bytes) (now results) (now arcs) ⌝ }
     requires { ⌜ image ≡ imageIn (now bytes) ⌝ }
@@ -114,16 +155,7 @@ fn work(bytes: &[u8], image: Image, results: &mut [i64], arcs: &mut [u32]) -> An
         &mut launch,
         &mut latch,
     );
-    let cycle = image.cycle;
-    let l = image.synchronizers as usize;
-    let later = settle(true, &source, &late, cycle, &first, &launch, &latch, l);
-    if !later.done {
-        let m = image.arcs as usize;
-        let shown = find(&source, &late, cycle, &first, &launch, &latch, l, m, arcs);
-        return Answer::Growing(shown.count, shown.gain);
-    }
-    let ends = later.departs;
-    let missed = tell(
+    decide(
         bytes,
         image,
         &source,
@@ -132,10 +164,9 @@ fn work(bytes: &[u8], image: Image, results: &mut [i64], arcs: &mut [u32]) -> An
         &first,
         &launch,
         &latch,
-        &ends,
         results,
-    );
-    Answer::Timed(missed.setups, missed.holds)
+        arcs,
+    )
 }
 
 // A good image: are the buffers long enough?

@@ -6,9 +6,6 @@ use Rattle.timing.proofs.Read.{counts}
 use borrow.Author.Needs.{needs}
 use Rattle.timing.proofs.call.serve.Statement.{statement}
 use Rattle.timing.proofs.call.serve.Tie as tie
-use Rattle.timing.proofs.call.serve.Reads as reads
-use Rattle.timing.proofs.call.serve.Lts as lts
-use Rattle.timing.proofs.call.work.Reads as work-reads
 
 cast-l : tie.Need-cast-l
 cast-l c = search needs

@@ -4,10 +4,6 @@ use Rattle.timing.specs.Promise.{refused}
 use borrow.Author.Needs.{needs}
 use Rattle.timing.proofs.call.timing.Statement.{statement}
 use Rattle.timing.proofs.call.timing.Tie as tie
-use Rattle.timing.proofs.call.timing.Reads as reads
-use Rattle.timing.proofs.call.timing.Lts as lts
-use Rattle.image.proofs.check.Reads as check-reads
-use Rattle.timing.proofs.call.serve.Reads as serve-reads
 
 check-requires : tie.Need-check-requires
 check-requires c κs = search needs
