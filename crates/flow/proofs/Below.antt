@@ -40,10 +40,10 @@ pub record Twice (f : ℕ → ℕ) (n : ℕ) : Type 0 where
   pub fresh : Fresh f second
 
 -- after the first place, up to the second, all differ
-pub twice-apart : (f : ℕ → ℕ) (n : ℕ) (t : Twice f n) (y : ℕ) → y ≤ t .second → (x : ℕ) → t .first < x → x < y → f x ≢ f y
-twice-apart f n t y l x h k e = elim (ℕ-discrete y (t .second)) [
-  | yes q ↦ t .fresh x (omega arith) (t .first) h (t .same ∙ sym (e ∙ ap f q))
-  | no q ↦ t .fresh y (omega arith) x k e
+pub twice-apart : (f : ℕ → ℕ) (a b : ℕ) → f a ≡ f b → Fresh f b → (y : ℕ) → y ≤ b → (x : ℕ) → a < x → x < y → f x ≢ f y
+twice-apart f a b same fresh y l x h k e = elim (ℕ-discrete y b) [
+  | yes q ↦ fresh x (omega arith) a h (same ∙ sym (e ∙ ap f q))
+  | no q ↦ fresh y (omega arith) x k e
 ]
 
 twice-or : (f : ℕ → ℕ) (n : ℕ) → Twice f n ⊎ Fresh f n

@@ -1,9 +1,10 @@
 -- A round that still changes a node, as late as the number of nodes, shows a ring of gain above zero. An arc raised the node, and
 -- its source rose in the round before: so a chain of arcs goes back to the first round. It has more places than there are nodes,
--- so a node comes twice. From the one place to the other the walk is closed, its nodes are distinct, and it adds to the time.
+-- so a node comes twice. From the one place to the other the walk is closed, its nodes are distinct, and it adds to the time:
+-- the rounds rose by no more than its gain. It may be started at any of its nodes.
 use mathlib.Core.Path.{_≡_, refl, sym, ap}
 use mathlib.Core.Bool.{Bool, true, false}
-use mathlib.Core.List.{List, [], _∷_}
+use mathlib.Core.List.{List, [], _∷_, _++_}
 use mathlib.Core.Logic.{_≢_}
 use Prim.Native.Nat.{ℕ, zero, suc, _+_, _-_, _<_, _≤_}
 use native.Mathlib.Omega.{arith}
@@ -15,11 +16,12 @@ use Rattle.ticks.proofs.Order.{≤ℤ-trans, ≤ℤ-eq, ≤ℤ-<ℤ-trans}
 use Rattle.ticks.proofs.Extremes.{max-left, greater}
 use Rattle.flow.specs.Flow.{Flow, Good, Side, late, early, When, at, brings, departs, next, round}
 use Rattle.flow.specs.Bounds.{Gives}
-use Rattle.flow.specs.Walk.{Step, Walk, gain, sources, Every, Distinct, GrowingRing}
-use Rattle.flow.proofs.Below.{Twice, twice-apart, pigeons}
+use Rattle.flow.specs.Walk.{Step, Walk, routeBack, gain, sources, Every, Distinct, GrowingRing}
+use Rattle.flow.proofs.Below.{Fresh, twice-apart, pigeons}
 use Rattle.flow.proofs.Arrival.{Found, nothing, found, find}
 use Rattle.flow.proofs.Next.{launch-next}
 use Rattle.flow.proofs.Rounds.{rises-by}
+use Rattle.flow.proofs.Joined.{every-join, distinct-join, sources-join, walk-join, gain-join}
 
 -- the arc a brings the latch i all of the time t from E, and no more than the time u from D
 record Pull (f : Flow) (D E : ℕ → ℤ) (i : ℕ) (u t : ℤ) (a : ℕ) : Type 0 where
@@ -65,11 +67,11 @@ Rose s f zero i = Unit {0}
 Rose s f (suc n) i = round s f n i <ℤ round s f (suc n) i
 
 -- the arc a from i changes the latch j at round n + 1
-record Link (s : Side) (f : Flow) (n i a j : ℕ) : Type 0 where
-  step : Step f i a
-  enters : f .target a ≡ j
-  carry : round s f (suc n) j ≤ℤ (round s f n i +ℤ f .weight a)
-  rose : round s f n j <ℤ round s f (suc n) j
+pub record Link (s : Side) (f : Flow) (n i a j : ℕ) : Type 0 where
+  pub step : Step f i a
+  pub enters : f .target a ≡ j
+  pub carry : round s f (suc n) j ≤ℤ (round s f n i +ℤ f .weight a)
+  pub rose : round s f n j <ℤ round s f (suc n) j
 
 link : (s : Side) (f : Flow) (n j : ℕ) (D : ℕ → ℤ) (u : ℤ) (a : ℕ) →
     Rose s f (suc n) j → Pull f D (round s f n) j u (round s f (suc n) j) a → Link s f n (f .source a) a j
@@ -92,13 +94,17 @@ back s f (suc n) j h =
     let w = f .weight (p .0) in
     (p .0, link s f (suc n) j D _ (p .0) h (p .1), omega (ints, h, p .1 .most, p .1 .carry, sum (D i) w, sum (E i) w))
 
--- nodes u = node 0, node 1, .. back from a node that round n changed, each changed by the next
+-- nodes back from one that round n changed, each changed by the arc from the next
+pub record Trail (s : Side) (f : Flow) (n : ℕ) (node arc : ℕ → ℕ) : Type 0 where
+  pub small : (d : ℕ) → d ≤ n → node d < f .nodes
+  pub link : (d k : ℕ) → d + suc k ≡ n → Link s f k (node (suc d)) (arc d) (node d)
+
+-- a trail back from u
 record Chain (s : Side) (f : Flow) (n u : ℕ) : Type 0 where
   node : ℕ → ℕ
   arc : ℕ → ℕ
   ends : node 0 ≡ u
-  small : (d : ℕ) → d ≤ n → node d < f .nodes
-  link : (d k : ℕ) → d + suc k ≡ n → Link s f k (node (suc d)) (arc d) (node d)
+  trail : Trail s f n node arc
 
 abbrev push : ℕ → (ℕ → ℕ) → ℕ → ℕ
 push x g zero = x
@@ -110,112 +116,139 @@ extend s f n u a l h c = record {
   node = push u (c .node);
   arc = push a (c .arc);
   ends = refl;
-  small = small;
-  link = links;
+  trail = record { small = small; link = links };
 }
   where
     small : (d : ℕ) → d ≤ suc n → push u (c .node) d < f .nodes
     small zero k = l
-    small (suc d) k = c .small d (omega arith)
+    small (suc d) k = c .trail .small d (omega arith)
 
     links : (d k : ℕ) → d + suc k ≡ suc n → Link s f k (c .node d) (push a (c .arc) d) (push u (c .node) d)
     links zero k e = let q : k ≡ n = omega arith in rw (q, c .ends) h
-    links (suc d) k e = c .link d k (omega arith)
+    links (suc d) k e = c .trail .link d k (omega arith)
 
 chain : (s : Side) (f : Flow) → Good f → (n u : ℕ) → u < f .nodes → Rose s f n u → Chain s f n u
 chain s f good zero u l h = record {
   node = λ d. u;
   arc = λ d. 0;
   ends = refl;
-  small = λ d k. l;
-  link = λ d k e. let z : ⊥ = omega arith in absurd z;
+  trail = record { small = λ d k. l; link = λ d k e. let z : ⊥ = omega arith in absurd z };
 }
 chain s f good (suc n) u l h = let b = back s f n u h in
     extend s f n u (b .0) l (b .1) (chain s f good n (f .source (b .0)) (good .leaves (b .0) (b .1 .step .here)) (b .2))
-
--- d arcs of a chain in order of travel, from place b on
-abbrev route : (ℕ → ℕ) → ℕ → ℕ → List ℕ
-route arc b zero = []
-route arc zero (suc d) = []
-route arc (suc b) (suc d) = arc b ∷ route arc b d
 
 -- a walk from i to j, and what the rounds say of its gain
 record Along (s : Side) (f : Flow) (i m j n : ℕ) (p : List ℕ) : Type 0 where
   walk : Walk f i p j
   gains : round s f n j ≤ℤ (round s f m i +ℤ gain f p)
 
-module _ (s : Side) (f : Flow) (n u : ℕ) (c : Chain s f n u) where
-  along : (d b a : ℕ) → a + d ≡ b → (m k : ℕ) → b + m ≡ n → a + k ≡ n →
-      Along s f (c .node b) m (c .node a) k (route (c .arc) b d)
+-- what adds to a time is not empty
+pub grows-some : (f : Flow) (p : List ℕ) → pos 0 <ℤ gain f p → 0 < length p
+grows-some f [] h = omega ints
+grows-some f (a ∷ p) h = omega arith
+
+module _ (s : Side) (f : Flow) (n : ℕ) (node arc : ℕ → ℕ) (trail : Trail s f n node arc) where
+  along : (d b a : ℕ) → a + d ≡ b → (m k : ℕ) → b + m ≡ n → a + k ≡ n → Along s f (node b) m (node a) k (routeBack arc b d)
   along zero b a e m k p q =
       let x : b ≡ a = omega arith in
       let y : m ≡ k = omega arith in
-      record { walk = ap (c .node) x; gains = rw (x, y) (omega (ints, sum (round s f k (c .node a)) (pos 0))) }
+      record { walk = ap node x; gains = rw (x, y) (omega (ints, sum (round s f k (node a)) (pos 0))) }
   along (suc d) zero a e m k p q = let z : ⊥ = omega arith in absurd z
   along (suc d) (suc b) a e m k p q =
       let h = along d b a (omega arith) (suc m) k (omega arith) q in
-      let l = c .link b m (omega arith) in
-      let g = gain f (route (c .arc) b d) in
-      let w = f .weight (c .arc b) in
-      let t = round s f m (c .node (suc b)) in
+      let l = trail .link b m (omega arith) in
+      let g = gain f (routeBack arc b d) in
+      let w = f .weight (arc b) in
+      let t = round s f m (node (suc b)) in
       record {
         walk = (l .step, rw (l .enters) (h .walk));
-        gains = omega (ints, h .gains, l .carry, sum (round s f (suc m) (c .node b)) g, sum t w, sum w g, sum t (w +ℤ g));
+        gains = omega (ints, h .gains, l .carry, sum (round s f (suc m) (node b)) g, sum t w, sum w g, sum t (w +ℤ g));
       }
 
   -- the arcs leave the nodes after place a, up to place b
   leaves-every : (P : ℕ → Type 0) (d b a : ℕ) → a + d ≡ b → b ≤ n →
-      ((x : ℕ) → a < x → x ≤ b → P (c .node x)) → Every P (sources f (route (c .arc) b d))
+      ((x : ℕ) → a < x → x ≤ b → P (node x)) → Every P (sources f (routeBack arc b d))
   leaves-every P zero b a e l h = tt
   leaves-every P (suc d) zero a e l h = tt
   leaves-every P (suc d) (suc b) a e l h = (
-    rw (c .link b (n - suc b) (omega arith) .step .from) (h (suc b) (omega arith) (omega arith)),
+    rw (trail .link b (n - suc b) (omega arith) .step .from) (h (suc b) (omega arith) (omega arith)),
     leaves-every P d b a (omega arith) (omega arith) (λ x k m. h x k (omega arith)),
   )
 
   leaves-distinct : (d b a : ℕ) → a + d ≡ b → b ≤ n →
-      ((y : ℕ) → y ≤ b → (x : ℕ) → a < x → x < y → c .node x ≢ c .node y) → Distinct (sources f (route (c .arc) b d))
+      ((y : ℕ) → y ≤ b → (x : ℕ) → a < x → x < y → node x ≢ node y) → Distinct (sources f (routeBack arc b d))
   leaves-distinct zero b a e l h = tt
   leaves-distinct (suc d) zero a e l h = tt
   leaves-distinct (suc d) (suc b) a e l h = (
-    rw (c .link b (n - suc b) (omega arith) .step .from) (leaves-every (λ y. c .node (suc b) ≢ y) d b a (omega arith) (omega arith)
-        (λ x k m r. h (suc b) (omega arith) x k (omega arith) (sym r))),
+    rw (trail .link b (n - suc b) (omega arith) .step .from)
+        (leaves-every (λ y. node (suc b) ≢ y) d b a (omega arith) (omega arith) (λ x k m r. h (suc b) (omega arith) x k (omega arith) (sym r))),
     leaves-distinct d b a (omega arith) (omega arith) (λ y k. h y (omega arith)),
   )
 
--- what adds to a time is not empty
-grows-some : (f : Flow) (p : List ℕ) → pos 0 <ℤ gain f p → 0 < length p
-grows-some f [] h = omega ints
-grows-some f (a ∷ p) h = omega arith
+  -- the first node that comes twice, at places a and b, closes a ring. It may be started at any place between
+  module _ (a b low : ℕ) (above : a < low) (below : low ≤ b) (bound : b ≤ n) (same : node a ≡ node b) (fresh : Fresh node b) where
+    abbrev front : List ℕ
+    front = routeBack arc low (low - a)
 
--- the first node that comes twice closes a ring
-closes : (s : Side) (f : Flow) → Good f → (n u : ℕ) (c : Chain s f n u) → Twice (c .node) (suc n) → GrowingRing f
-closes s f good n u c t =
-    let a = t .first in
-    let b = t .second in
-    let m = n - b in
-    let k = n - suc a in
-    let x : a < b = t .order in
-    let y : b < suc n = t .bound in
-    let p = route (c .arc) b (b - a) in
-    let h = along s f n u c (b - a) b a (omega arith) m (suc k) (omega arith) (omega arith) in
-    let l = c .link a k (omega arith) in
-    let r = rises-by s f good (k - m) m k (omega arith) (c .node a) (c .small a (omega arith)) in
-    let g : round s f (suc k) (c .node a) ≤ℤ (round s f m (c .node a) +ℤ gain f p) = rw (t .same) (rw (t .same) at (h .gains)) in
-    let grows : pos 0 <ℤ gain f p = omega (ints, g, r, l .rose, sum (round s f m (c .node a)) (gain f p)) in
-    record {
+    abbrev rest : List ℕ
+    rest = routeBack arc b (b - low)
+
+    to-same : Along s f (node low) (n - low) (node b) (suc (n - suc a)) front
+    to-same = rw same at (along (low - a) low a (omega arith) (n - low) (suc (n - suc a)) (omega arith) (omega arith))
+
+    to-low : Along s f (node b) (n - b) (node low) (n - low) rest
+    to-low = along (b - low) b low (omega arith) (n - b) (n - low) (omega arith) (omega arith)
+
+    pub ring-every : (P : ℕ → Type 0) → ((x : ℕ) → a < x → x ≤ b → P (node x)) → Every P (sources f (front ++ rest))
+    ring-every P h = rw (sources-join f front rest) (every-join P (sources f front) (sources f rest)
+        (leaves-every P (low - a) low a (omega arith) (omega arith) (λ x k m. h x k (omega arith)))
+        (leaves-every P (b - low) b low (omega arith) bound (λ x k m. h x (omega arith) m)))
+
+    pub ring-closed : Walk f (node low) (front ++ rest) (node low)
+    ring-closed = walk-join f front rest (node low) (node b) (node low) (to-same .walk) (to-low .walk)
+
+    pub ring-distinct : Distinct (sources f (front ++ rest))
+    ring-distinct =
+        let apart = twice-apart node a b same fresh in
+        rw (sources-join f front rest) (distinct-join (sources f front) (sources f rest)
+        (leaves-distinct (low - a) low a (omega arith) (omega arith) (λ y k. apart y (omega arith)))
+        (leaves-distinct (b - low) b low (omega arith) bound (λ y k x h. apart y k x (omega arith)))
+        (leaves-every (λ i. Every (λ j. i ≢ j) (sources f rest)) (low - a) low a (omega arith) (omega arith)
+        (λ x h k. leaves-every (λ j. node x ≢ j) (b - low) b low (omega arith) bound (λ y p q. apart y q x h (omega arith)))))
+
+    pub ring-grows : Good f → pos 0 <ℤ gain f (front ++ rest)
+    ring-grows good =
+        let k = n - suc a in
+        let l = rw same at (trail .link a k (omega arith) .rose) in
+        let r = rises-by s f good (k - (n - b)) (n - b) k (omega arith) (node b) (trail .small b bound) in
+        omega (
+          ints,
+          l,
+          r,
+          to-same .gains,
+          to-low .gains,
+          gain-join f front rest,
+          sum (gain f front) (gain f rest),
+          sum (round s f (n - low) (node low)) (gain f front),
+          sum (round s f (n - b) (node b)) (gain f rest),
+        )
+
+    abbrev pub turned-ring : Good f → GrowingRing f
+    turned-ring good = record {
       ring = record {
-        start = c .node b;
-        path = p;
-        some = grows-some f p grows;
-        closed = rw (t .same) at (h .walk);
-        distinct = leaves-distinct s f n u c (b - a) b a (omega arith) (omega arith) (twice-apart (c .node) (suc n) t);
+        start = node low;
+        path = front ++ rest;
+        some = grows-some f (front ++ rest) (ring-grows good);
+        closed = ring-closed;
+        distinct = ring-distinct;
       };
-      grows = grows;
+      grows = ring-grows good;
     }
 
 pub growing : (s : Side) (f : Flow) → Good f → (n u : ℕ) → u < f .nodes →
     round s f n u <ℤ round s f (suc n) u → f .nodes ≤ suc n → GrowingRing f
 growing s f good n u l h big =
     let c = chain s f good (suc n) u l h in
-    closes s f good (suc n) u c (pigeons (f .nodes) (suc (suc n)) (c .node) (λ i k. c .small i (omega arith)) (omega arith))
+    let t = pigeons (f .nodes) (suc (suc n)) (c .node) (λ i k. c .trail .small i (omega arith)) (omega arith) in
+    turned-ring s f (suc n) (c .node) (c .arc) (c .trail)
+    (t .first) (t .second) (t .second) (t .order) (omega arith) (omega (arith, t .bound)) (t .same) (t .fresh) good

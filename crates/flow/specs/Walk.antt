@@ -1,11 +1,11 @@
 -- Walks from latch to latch, what they add to a time, and rings.
 use mathlib.Core.Path.{_≡_}
 use mathlib.Core.Bool.{true}
-use mathlib.Core.List.{List, [], _∷_}
+use mathlib.Core.List.{List, [], _∷_, _++_}
 use mathlib.Core.Logic.{_≢_}
-use Prim.Native.Nat.{ℕ, _<_}
+use Prim.Native.Nat.{ℕ, zero, suc, _≤_, _<_}
 use lib.IntN.{ℤ, pos, _+ℤ_}
-use lib.ListN.{length}
+use lib.ListN.{length, drop}
 use lib.Signed.{_<ℤ_}
 use Rattle.flow.specs.Flow.{Flow}
 
@@ -19,6 +19,12 @@ pub record Step (f : Flow) (i a : ℕ) : Type 0 where
 abbrev pub Walk : Flow → ℕ → List ℕ → ℕ → Type 0
 Walk f i [] j = i ≡ j
 Walk f i (a ∷ p) j = Step f i a × Walk f (f .target a) p j
+
+-- d arcs of a walk back in order of travel, from place b on
+abbrev pub routeBack : (ℕ → ℕ) → ℕ → ℕ → List ℕ
+routeBack arc b zero = []
+routeBack arc zero (suc d) = []
+routeBack arc (suc b) (suc d) = arc b ∷ routeBack arc b d
 
 -- the sum of the weights
 abbrev pub gain : Flow → List ℕ → ℤ
@@ -51,3 +57,12 @@ pub record Ring (f : Flow) : Type 0 where
 pub record GrowingRing (f : Flow) : Type 0 where
   pub ring : Ring f
   pub grows : pos 0 <ℤ gain f (ring .path)
+
+-- a growing ring as it is shown: the arcs in order of travel at the front of the buffer, the first leaving the ring's lowest-numbered
+-- node, the rest of the buffer as it was
+pub record Shown (f : Flow) (count : ℕ) (total : ℤ) (before after : List ℕ) : Type 0 where
+  pub grows : GrowingRing f
+  pub lowest : Every (λ i. grows .ring .start ≤ i) (sources f (grows .ring .path))
+  pub counted : count ≡ length (grows .ring .path)
+  pub gains : total ≡ gain f (grows .ring .path)
+  pub written : after ≡ grows .ring .path ++ drop (length (grows .ring .path)) before

@@ -1,13 +1,9 @@
--- What timing needs to know of tables that hold a flow, and what it shows of a growing one.
+-- What timing needs to know of tables that hold a flow, and what working their rounds out comes to.
 use mathlib.Core.Path.{_≡_}
 use mathlib.Core.Bool.{Bool, true, false}
-use mathlib.Core.List.{List, _++_}
 use Prim.Native.Nat.{ℕ, suc, _≤_, _<_}
-use lib.IntN.{ℤ}
-use lib.ListN.{length, drop}
 use Rattle.ticks.specs.Raised.{lower}
 use Rattle.flow.specs.Flow.{Flow, Good, Side, round}
-use Rattle.flow.specs.Walk.{Every, sources, gain, GrowingRing}
 use Rattle.tables.specs.Net.{Net, roundN, Shaped, Ranged}
 use Rattle.tables.specs.Models.{Models}
 
@@ -37,12 +33,3 @@ pub data Settling (s : Side) (n : Net) (l : ℕ) (D : ℕ → ℕ) : Bool → Ty
   settled : (k : ℕ) → k ≤ l → ((i : ℕ) → i < l → D i ≡ roundN s n k i) →
       ((i : ℕ) → i < l → roundN s n (suc k) i ≡ roundN s n k i) → Settling s n l D true
   unsettled : Unsettled s n l → Settling s n l D false
-
--- a growing ring as it is shown: the arcs in order of travel at the front of the buffer, the first leaving the ring's lowest-numbered
--- node, the rest of the buffer as it was
-pub record Shown (f : Flow) (count : ℕ) (total : ℤ) (before after : List ℕ) : Type 0 where
-  pub grows : GrowingRing f
-  pub lowest : Every (λ i. grows .ring .start ≤ i) (sources f (grows .ring .path))
-  pub counted : count ≡ length (grows .ring .path)
-  pub gains : total ≡ gain f (grows .ring .path)
-  pub written : after ≡ grows .ring .path ++ drop (length (grows .ring .path)) before

@@ -23,7 +23,6 @@ pub mod Places
 pub mod Kept
 pub mod Noted
 pub mod Back
-pub mod Trail
 pub mod Showing
 pub mod Replayed
 -- the call, and what its promise leaves open

@@ -12,20 +12,21 @@ use Rattle.ticks.proofs.Ints.{ints, sum, apart}
 use Rattle.ticks.proofs.Raised.{span, lower-lt}
 use Rattle.flow.specs.Flow.{Flow, late}
 use Rattle.flow.specs.Walk.{Walk, gain}
+use Rattle.flow.proofs.Chain.{Link, Trail, ring-every, turned-ring}
 use Rattle.tables.specs.Net.{Net, timesOf, roundN}
 use Rattle.tables.specs.Models.{Models}
-use Rattle.tables.specs.Held.{Held, Tame, Shown}
+use Rattle.tables.specs.Held.{Held, Tame}
+use Rattle.flow.specs.Walk.{Shown}
 use Rattle.timing.specs.Ring.{Kept, Raised, nodeBack, arcBack, leads, turned, Turned}
 use Rattle.timing.proofs.Back.{Hop, hops, back-node}
 use Rattle.timing.proofs.Noted.{Noted}
 use Rattle.timing.proofs.Route.{turned-length}
-use Rattle.timing.proofs.Trail.{Link, Trail, ring-closed, ring-distinct, ring-grows, ring-lowest}
 
 module _ (n : Net) (l m : ℕ) (tame : Tame late n l m) (f : Flow) (held : Held late n l m f) where
   models : Models n f
   models = held .models
 
-  hop-link : (k a j : ℕ) → suc k ≤ l → j < l → Hop n k a j → Link f k (n .arcs .source a) a j
+  hop-link : (k a j : ℕ) → suc k ≤ l → j < l → Hop n k a j → Link late f k (n .arcs .source a) a j
   hop-link k a j h here hop =
       let j' : j < f .nodes = rw (held .nodes) here in
       let a' : a < f .arcs = omega (arith, hop .below, models .within j j') in
@@ -45,7 +46,7 @@ module _ (n : Net) (l m : ℕ) (tame : Tame late n l m) (f : Flow) (held : Held 
 
   module _ (kept : List ℕ) (all : Kept n l l kept) (u : ℕ) (here : u < l) (rose : Raised n l u) (nodes trail : List ℕ)
       (noted : Noted nodes (l + 1) (nodeBack kept (n .arcs .source) l u)) (arcs : Noted trail l (arcBack kept (n .arcs .source) l u)) where
-    pub held-trail : Trail f l (timesOf nodes) (timesOf trail)
+    pub held-trail : Trail late f l (timesOf nodes) (timesOf trail)
     unfolding nodeBack
     held-trail = record {
       small = λ d h. rw (held .nodes, noted d (omega arith)) (back-node n l m (tame .shaped) kept all u here rose d h);
@@ -70,7 +71,7 @@ module _ (n : Net) (l m : ℕ) (tame : Tame late n l m) (f : Flow) (held : Held 
         sum (subℕ (lead a) cycle) (subℕ (leads lead p) (length p * cycle)),
       ))
 
-  pub shown : (nodes trail before after : List ℕ) (count : ℕ) (total : ℤ) → Trail f l (timesOf nodes) (timesOf trail) →
+  pub shown : (nodes trail before after : List ℕ) (count : ℕ) (total : ℤ) → Trail late f l (timesOf nodes) (timesOf trail) →
       Turned (timesOf nodes) (timesOf trail) (n .arcs .lead) (n .arcs .cycle) l count total before after →
       Shown f count total before after
   shown nodes trail before after count total t r =
@@ -82,23 +83,15 @@ module _ (n : Net) (l m : ℕ) (tame : Tame late n l m) (f : Flow) (held : Held 
       let path = turned arc a low b in
       let h = r .lowest .above in
       let k = r .lowest .below in
+      let q = r .repeats in
       let size = turned-length arc a low b h k in
-      let closed = ring-closed f l node arc t a b low (r .repeats) (r .lowest) in
+      let grows = turned-ring late f l node arc t a b low h k (q .bound) (q .same) (q .fresh) (held .good) in
       record {
-        grows = record {
-          ring = record {
-            start = node low;
-            path = path;
-            some = rw size (omega (arith, h, k));
-            closed = closed;
-            distinct = ring-distinct f l node arc t a b low (r .repeats) (r .lowest);
-          };
-          grows = ring-grows f l node arc t a b low (r .repeats) (r .lowest) (held .good);
-        };
-        lowest = ring-lowest f l node arc t a b low (r .repeats) (r .lowest);
+        grows = grows;
+        lowest = ring-every late f l node arc t a b low h k (q .bound) (q .same) (q .fresh) (λ i. node low ≤ i) (r .lowest .lowest);
         counted = r .counted ∙ sym size;
         gains = r .gains
             ∙ ap (λ (x : ℕ). subℕ (leads (n .arcs .lead) path) (x * n .arcs .cycle)) (sym size)
-            ∙ sym (gain-leads path (node low) (node low) closed);
+            ∙ sym (gain-leads path (node low) (node low) (grows .ring .closed));
         written = rw size (r .written);
       }

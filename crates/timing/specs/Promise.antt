@@ -12,7 +12,7 @@ use Rattle.flow.specs.Flow.{late}
 use Rattle.circuit.specs.Circuit.{Circuit, circuitOf}
 use Rattle.circuit.specs.Clock.{flow}
 use Rattle.circuit.specs.Times.{Times, missedSetups, missedHolds, results}
-use Rattle.tables.specs.Held.{Shown}
+use Rattle.flow.specs.Walk.{Shown}
 use Rattle.timing.specs.declared.call.Answer.{Answer}
 use Rattle.timing.specs.declared.call.Answer.the-variants.{Refused, Growing, Timed}
 

@@ -6,6 +6,7 @@ use Prim.Native.Nat.{ℕ, zero, suc, _+_, _-_, _*_, _<_, _≤_}
 use lib.IntN.{ℤ, subℕ}
 use lib.ListN.{length, getD, take, drop}
 use Rattle.flow.specs.Flow.{late}
+pub use Rattle.flow.specs.Walk.{routeBack}
 use Rattle.tables.specs.Net.{Arcs, Net, timesOf, brought, best, departN, roundN}
 
 -- of the arcs from `from` up to `to`, a brings the latest time
@@ -58,12 +59,6 @@ pub record Lowest (node : ℕ → ℕ) (first second low : ℕ) : Type 0 where
   pub above : first < low
   pub below : low ≤ second
   pub lowest : (x : ℕ) → first < x → x ≤ second → node low ≤ node x
-
--- d arcs of a walk back in order of travel, from place b on
-abbrev pub routeBack : (ℕ → ℕ) → ℕ → ℕ → List ℕ
-routeBack arc b zero = []
-routeBack arc zero (suc d) = []
-routeBack arc (suc b) (suc d) = arc b ∷ routeBack arc b d
 
 -- a buffer with `count` arcs of a walk back written at `at`
 abbrev pub written : (ℕ → ℕ) → ℕ → ℕ → ℕ → List ℕ → List ℕ
