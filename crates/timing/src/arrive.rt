@@ -13,8 +13,8 @@ pub(crate) fn wide(x: u32) -> u64
 }
 
 // A number of 16 bits as an index.
-pub(crate) fn place(x: u16) -> usize
-    ensures { λ r. ⌜ r ≡ x ⌝ }
+pub(crate) fn index(x: u16) -> usize
+    ensures { λ r. ⌜ (r ≡ x) × (r < 65536) ⌝ }
 {
     x as usize
 }

@@ -7,13 +7,11 @@ ghost use Rattle.image.specs.Valid.{Valid, imageIn};
 ghost use Rattle.circuit.specs.Circuit.{circuitOf};
 ghost use Rattle.circuit.specs.Clock.{shift};
 ghost use Rattle.timing.specs.Loaded.{Launched, Led, Splits, LoadedNodes, LoadedArcs, LoadedFirst};
+use crate::signed::RAISE;
 use image::Arc;
 use image::Image;
 use image::Phase;
 use image::Synchronizer;
-
-// Times are raised by this, so that none is below zero.
-const RAISE: u64 = 4_294_967_296;
 
 // What a synchronizer starts from: its launch, raised, and 1 for a latch.
 struct Node {

@@ -10,12 +10,10 @@ ghost use Rattle.circuit.specs.Times.{missed, orMark};
 ghost use Rattle.tables.specs.Net.{arcsOf, timesOf};
 ghost use Rattle.timing.specs.Results.{arrivalsOf, Open, whenIf, setupBy, holdBy, sixOf, more, countedOf, Tellable, Writable, Added, Written};
 use crate::arrive::arrival;
+use crate::signed::RAISE;
 use crate::signed::minus;
 use image::Image;
 use image::Synchronizer;
-
-// What times are raised by.
-const RAISE: u64 = 4_294_967_296;
 
 // What stands where no arc leads in.
 const MARK: i64 = 9_223_372_036_854_775_807;

@@ -15,8 +15,9 @@ ghost use Rattle.flow.specs.Walk.{Shown};
 ghost use Rattle.timing.specs.Ready.{Reachable};
 ghost use Rattle.timing.specs.Ring.{Taken, Gave, Kept, AtRound, Rounded, Raised, nodeBack, arcBack, Repeats, Lowest, routeBack, written, leads, turned, Turned};
 use crate::arrive::bring;
-use crate::arrive::greater;
+use crate::arrive::index;
 use crate::arrive::wide;
+use crate::rounds::departure;
 use crate::signed::minus;
 
 pub(crate) struct Ring {
@@ -28,12 +29,6 @@ pub(crate) struct Ring {
 struct At {
     arc: u16,
     time: u64,
-}
-
-fn index(x: u16) -> usize
-    ensures { λ r. ⌜ (r ≡ x) × (r < 65536) ⌝ }
-{
-    x as usize
 }
 
 fn narrow(x: usize) -> u16
@@ -71,31 +66,6 @@ fn via(
     arc
 }
 
-// When a synchronizer departs, of whose arcs, from `from` up to `to`, `arc` brings the latest time.
-fn leave(
-    source: &[u16; 2048],
-    lead: &[u32; 2048],
-    cycle: u32,
-    departs: &[u64; 512],
-    from: usize,
-    to: usize,
-    arc: usize,
-    latch: u8,
-    launch: u64,
-) -> u64
-    requires { ⌜ from ≤ to ⌝ }
-    requires { ⌜ Reachable (now source) (now departs) to ⌝ }
-    requires { ⌜ (from < to → Taken (arcsOf (now source) (now lead) cycle) (timesOf (now departs)) from to arc) ⌝ }
-    ensures { λ r. ⌜ r ≡ departing (eqb latch 1) (to - from) (best late (arcsOf (now (source .entry)) (now (lead .entry)) cycle) (timesOf (now (departs .entry))) from (to - from)) launch ⌝ }
-{
-    if latch == 1 {
-        if from < to {
-            return greater(bring(source, lead, cycle, departs, arc), launch);
-        }
-    }
-    launch
-}
-
 // One round at one synchronizer: its departure, and the arc that gave its arrival
 fn depart(
     source: &[u16; 2048],
@@ -118,20 +88,9 @@ fn depart(
     let from = index(first[i]);
     let to = index(first[i + 1]);
     let arc = via(source, lead, cycle, departs, from, to);
-    let time = leave(
-        source,
-        lead,
-        cycle,
-        departs,
-        from,
-        to,
-        arc,
-        latch[i],
-        launch[i],
-    );
     At {
         arc: narrow(arc),
-        time: time,
+        time: departure(true, source, lead, cycle, first, launch, latch, departs, i),
     }
 }
 

@@ -6,10 +6,10 @@ ghost use Rattle.tables.specs.Held.{Settling};
 ghost use Rattle.timing.specs.Ready.{Ready, Works, WorksAt, Rounded};
 use crate::arrive::arrival;
 use crate::arrive::greater;
-use crate::arrive::place;
+use crate::arrive::index;
 
 // When synchronizer i departs, where the others depart at `departs`.
-fn departure(
+pub(crate) fn departure(
     late: bool,
     source: &[u16; 2048],
     lead: &[u32; 2048],
@@ -24,8 +24,8 @@ fn departure(
     ensures { λ r. ⌜ r ≡ departN (sideOf late) (netOf (arcsOf (now (source .entry)) (now (lead .entry)) cycle) (now (first .entry)) (now (launch .entry)) (now (latch .entry))) (timesOf (now (departs .entry))) i ⌝ }
 {
     let own = launch[i];
-    let from = place(first[i]);
-    let to = place(first[i + 1]);
+    let from = index(first[i]);
+    let to = index(first[i + 1]);
     if latch[i] == 1 {
         if from < to {
             return greater(arrival(late, source, lead, cycle, departs, from, to), own);

@@ -1,7 +1,10 @@
-// The one place where signed numbers are made.
+// What times are raised by, and the one place where signed numbers are made.
 ghost use mathlib.Core.Path.{_≡_};
 ghost use Prim.Native.Nat.{_<_};
 ghost use lib.IntN.{subℕ};
+
+// Times are raised by this, so that none is below zero.
+pub(crate) const RAISE: u64 = 4_294_967_296;
 
 // How far a lies after b.
 pub(crate) fn minus(a: u64, b: u64) -> i64

@@ -15,26 +15,26 @@ mul-own c = search needs
 element-copy-out-own : tie.Need-element-copy-out-own
 element-copy-out-own c = search needs
 
-mul-place : tie.Need-mul-place
-mul-place c = search needs
+mul-index : tie.Need-mul-index
+mul-index c = search needs
 
-element-copy-out-place : tie.Need-element-copy-out-place
-element-copy-out-place c = search needs
+element-copy-out-index : tie.Need-element-copy-out-index
+element-copy-out-index c = search needs
 
-place-requires : tie.Need-place-requires
-place-requires c κs = search needs
+index-requires : tie.Need-index-requires
+index-requires c κs = search needs
 
-add-place : tie.Need-add-place
-add-place c = search needs
+add-index : tie.Need-add-index
+add-index c = search needs
 
-mul-place-2 : tie.Need-mul-place-2
-mul-place-2 c = search needs
+mul-index-2 : tie.Need-mul-index-2
+mul-index-2 c = search needs
 
-element-copy-out-place-2 : tie.Need-element-copy-out-place-2
-element-copy-out-place-2 c = search needs
+element-copy-out-index-2 : tie.Need-element-copy-out-index-2
+element-copy-out-index-2 c = search needs
 
-place-requires-2 : tie.Need-place-requires-2
-place-requires-2 c κs = search needs
+index-requires-2 : tie.Need-index-requires-2
+index-requires-2 c κs = search needs
 
 element-copy-out-if1 : tie.Need-element-copy-out-if1
 element-copy-out-if1 c = search needs
@@ -43,7 +43,7 @@ arrival-requires : tie.Need-arrival-requires
 arrival-requires c κs =
     let x = c .before .before .before .before .before .before .before .before .args in
     let w = c .before .before .before .before .before .before .before .before .pre in
-    let e = c .before .before .before .place2 .ensures in (
+    let e = c .before .before .before .index2 .ensures .0 in (
       omega (arith, c .if2 .taken),
       reach (x .source .now) (x .lead .now) (x .first .now) (x .launch .now) (x .latch .now) (x .departs .now) (x .cycle)
           (w .nodes) (w .works .arcs) _ (w .works .shaped) (w .works .ranged) (omega (arith, e, w .works .shaped .ends (x .i) (w .here))),
@@ -59,9 +59,9 @@ returns c =
     let D = timesOf (x .departs .now) in
     let w = c .before .before .before .before .before .before .before .before .before .before .pre in
     rw (
-      depart-arc (sideOf (x .late)) n D (x .i) (eq-eqb _ 1 (c .before .before .before .if1 .taken)) (omega (arith, c .before .before .if2 .taken, c .before .before .before .before .before .before .before .place .ensures, c .before .before .before .before .before .place2 .ensures)),
-      ← c .before .before .before .before .before .before .before .place .ensures,
-      ← c .before .before .before .before .before .place2 .ensures,
+      depart-arc (sideOf (x .late)) n D (x .i) (eq-eqb _ 1 (c .before .before .before .if1 .taken)) (omega (arith, c .before .before .if2 .taken, c .before .before .before .before .before .before .before .index .ensures .0, c .before .before .before .before .before .index2 .ensures .0)),
+      ← c .before .before .before .before .before .before .before .index .ensures .0,
+      ← c .before .before .before .before .before .index2 .ensures .0,
       ← c .before .arrival .ensures,
     ) (c .greater .ensures)
 
@@ -71,7 +71,7 @@ returns-2 c =
     let n = netOf (arcsOf (x .source .now) (x .lead .now) (x .cycle)) (x .first .now) (x .launch .now) (x .latch .now) in
     let D = timesOf (x .departs .now) in
     let w = c .before .before .before .before .before .before .before .before .pre in
-    sym (depart-bare (sideOf (x .late)) n D (x .i) (omega (arith, c .if2 .left, c .before .before .before .before .before .place .ensures, c .before .before .before .place2 .ensures)))
+    sym (depart-bare (sideOf (x .late)) n D (x .i) (omega (arith, c .if2 .left, c .before .before .before .before .before .index .ensures .0, c .before .before .before .index2 .ensures .0)))
 
 returns-3 : tie.Need-returns-3
 returns-3 c =
@@ -87,13 +87,13 @@ departure-spec =
     (tie.spec
     mul-own
     element-copy-out-own
-    mul-place
-    element-copy-out-place
-    place-requires
-    add-place
-    mul-place-2
-    element-copy-out-place-2
-    place-requires-2
+    mul-index
+    element-copy-out-index
+    index-requires
+    add-index
+    mul-index-2
+    element-copy-out-index-2
+    index-requires-2
     element-copy-out-if1
     arrival-requires
     greater-requires
