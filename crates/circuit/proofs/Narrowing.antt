@@ -1,11 +1,11 @@
 -- Demand 3. Of two sound circuits of which the second narrows the first, each flow of the second lies within the first's on its
 -- own side, since shifts and launches are the same and each delay lies inside the first's window. The theorems on flows do the rest.
-use mathlib.Core.Path.{_≡_, refl, sym, ap, _∙_}
+use mathlib.Core.Path.{_≡_}
 use mathlib.Core.List.{List}
-use Prim.Native.Nat.{ℕ, _+_, _≤_, _<_}
+use Prim.Native.Nat.{ℕ, _≤_, _<_}
 use native.Mathlib.Omega.{arith}
 use lib.IntN.{ℤ, pos, _-ℤ_}
-use lib.Signed.{_≤ℤ_, ≤ℤ-refl}
+use lib.Signed.{_≤ℤ_}
 use Rattle.ticks.proofs.Ints.{ints, diff}
 use Rattle.image.specs.Valid.{Valid}
 use Rattle.flow.specs.Flow.{Side, late, early, When, round}

@@ -5,10 +5,10 @@ use mathlib.Core.Bool.{Bool, true, false, cond}
 use Prim.Native.Nat.{ℕ, _+_, _≤_, _<_}
 use native.Mathlib.Omega.{arith}
 use lib.Dec.{ltb}
-use lib.IntN.{ℤ, pos, negsuc, _+ℤ_, _-ℤ_}
+use lib.IntN.{ℤ, pos, negsuc, _-ℤ_}
 use lib.Signed.{_≤ℤ_, ≤ℤ-refl}
 use borrow.Author.Tests.{ltb-true, ltb-false, le-ltb}
-use Rattle.ticks.proofs.Ints.{ints, sum, diff}
+use Rattle.ticks.proofs.Ints.{ints, diff}
 use Rattle.flow.specs.Flow.{Side, late, early}
 use Rattle.flow.specs.Bounds.{Within}
 use Rattle.circuit.specs.Circuit.{Circuit}

@@ -9,7 +9,7 @@ use lib.Signed.{_≤ℤ_, ltZ}
 use Rattle.ticks.specs.Extremes.{maxℤ}
 use Rattle.ticks.proofs.Ints.{ints}
 use Rattle.ticks.proofs.Order.{ltZ-true, ltZ-false}
-use Rattle.flow.specs.Flow.{Side, When, none, at, arrival, next, departs, Fits}
+use Rattle.flow.specs.Flow.{Side, When, none, at, next, Fits}
 use Rattle.circuit.specs.Circuit.{Circuit}
 use Rattle.circuit.specs.Clock.{isLatch, opening, launch, flow}
 use Rattle.circuit.specs.Times.{arrives, Met, missed}

@@ -5,11 +5,11 @@ use mathlib.Core.List.{List, [], _∷_, _++_}
 use mathlib.Core.Logic.{_⊎_, inl, inr}
 use Prim.Native.Nat.{ℕ, zero, suc, _^_, _≤_, _<_}
 use native.Mathlib.Omega.{arith}
-use lib.IntN.{ℤ, pos, negsuc, natAbs, _+ℤ_, _-ℤ_}
+use lib.IntN.{ℤ, pos, negsuc, natAbs, _-ℤ_}
 use lib.Signed.{_≤ℤ_}
-use Rattle.ticks.proofs.Ints.{ints, sum, diff}
+use Rattle.ticks.proofs.Ints.{ints, diff}
 use Rattle.ticks.proofs.Order.{≤ℤ-trans}
-use Rattle.flow.specs.Flow.{Side, late, early, When, none, at, arrival}
+use Rattle.flow.specs.Flow.{Side, late, early, When, none, at}
 use Rattle.flow.proofs.Sizes.{arrival-size}
 use Rattle.circuit.specs.Circuit.{Circuit}
 use Rattle.circuit.specs.Clock.{flow}

@@ -1,27 +1,27 @@
 -- Times exist or a ring grows, decided; and where they exist they are what as many rounds give as there are synchronizers. So
 -- they are unique, the early ones are no later than the late ones, and none is large.
-use mathlib.Core.Path.{_≡_, refl, sym}
+use mathlib.Core.Path.{_≡_}
 use mathlib.Core.Logic.{_⊎_, inl, inr, _↔_}
 use Prim.Native.Nat.{ℕ, _*_, _≤_, _<_}
 use native.Mathlib.Omega.{arith}
-use lib.IntN.{ℤ, pos, negsuc, _+ℤ_}
+use lib.IntN.{ℤ, pos}
 use lib.Signed.{_≤ℤ_}
 use Rattle.ticks.proofs.Ints.{ints, sum}
 use Rattle.ticks.proofs.Order.{≤ℤ-trans}
-use Rattle.flow.specs.Flow.{Side, late, early, at, round, Fits, Least, Settled}
-use Rattle.flow.specs.Bounds.{Agree, Inside, Nested}
+use Rattle.flow.specs.Flow.{Side, late, early, round, Fits, Least, Settled}
+use Rattle.flow.specs.Bounds.{Nested}
 use Rattle.flow.specs.Walk.{GrowingRing}
 use Rattle.flow.proofs.Rounds.{least-unique, settled-least}
 use Rattle.flow.proofs.Settles.{within-settles, least-or-ring}
 use Rattle.flow.proofs.Walks.{fits-calm}
 use Rattle.flow.proofs.Windows.{departures-inside, arrivals-inside}
 use Rattle.flow.proofs.Within.{kept-self, within-self}
-use Rattle.flow.proofs.Sizes.{round-size, launch-round, arrival-size}
+use Rattle.flow.proofs.Sizes.{round-size, launch-round}
 use Rattle.circuit.specs.Circuit.{Circuit}
-use Rattle.circuit.specs.Clock.{flow, launch}
+use Rattle.circuit.specs.Clock.{flow}
 use Rattle.circuit.specs.Times.{Times, Calm, Growing, arrives}
 use Rattle.circuit.proofs.Sound.{Sound, good}
-use Rattle.circuit.proofs.Ranges.{launch-range, weight-high, weight-low, early-within}
+use Rattle.circuit.proofs.Ranges.{launch-range, weight-high, early-within}
 
 module _ (c : Circuit) (v : Sound c) where
   -- the rounds that are enough

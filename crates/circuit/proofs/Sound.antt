@@ -2,7 +2,7 @@
 use mathlib.Core.Path.{_≡_}
 use mathlib.Core.List.{List}
 use mathlib.Core.Logic.{_⊎_}
-use Prim.Native.Nat.{ℕ, suc, _≤_, _<_}
+use Prim.Native.Nat.{ℕ, _≤_, _<_}
 use Rattle.image.specs.Valid.{Valid}
 use Rattle.image.proofs.Orders.{closing-rises, arcs-rise}
 use Rattle.flow.specs.Flow.{Side, Good}

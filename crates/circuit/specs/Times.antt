@@ -1,5 +1,5 @@
 -- The times of a circuit, its checks, and what timing writes of them.
-use mathlib.Core.Bool.{Bool, true, false, cond}
+use mathlib.Core.Bool.{Bool, false, cond}
 use mathlib.Core.List.{List, [], _∷_, _++_}
 use Prim.Native.Nat.{ℕ, zero, suc, _+_, _-_, _^_}
 use lib.IntN.{ℤ, pos, _-ℤ_}

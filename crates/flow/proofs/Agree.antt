@@ -13,7 +13,7 @@ nested-antisym : (s : Side) {w v : When} → Nested s w v → Nested s v w → w
 nested-antisym s neither neither = refl
 nested-antisym s (nested {t} {u} h) (nested k) = ap at (inside-antisym s t u h k)
 
-agree-sym : (f : Flow) (D E : ℕ → ℤ) → Agree f D E → Agree f E D
+pub agree-sym : (f : Flow) (D E : ℕ → ℤ) → Agree f D E → Agree f E D
 agree-sym f D E h i l = sym (h i l)
 
 agree-bounded : (s : Side) (f : Flow) (D E : ℕ → ℤ) → Agree f D E → Bounded s f D E

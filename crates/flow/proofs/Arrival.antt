@@ -10,13 +10,9 @@ use lib.Dec.{eqb}
 use lib.IntN.{ℤ}
 use borrow.Author.Tests.{eqb-true, eqb-false}
 use Rattle.flow.specs.Flow.{Flow, Side, When, none, at, join, brings, into, arrival}
-use Rattle.flow.specs.Bounds.{Inside, Gives}
+use Rattle.flow.specs.Bounds.{Inside, Unentered, Gives}
 use Rattle.flow.proofs.Below.{below-suc}
 use Rattle.flow.proofs.Sides.{inside-refl, inside-antisym, inside-short, pick-case}
-
--- none of the first n arcs enters i
-abbrev pub Unentered : Flow → ℕ → ℕ → Type 0
-Unentered f i n = (a : ℕ) → a < n → f .target a ≢ i
 
 -- what the first n arcs give
 pub data Found (s : Side) (f : Flow) (D : ℕ → ℤ) (i n : ℕ) : When → Type 0 where

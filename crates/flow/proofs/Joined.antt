@@ -3,7 +3,7 @@ use mathlib.Core.Path.{_≡_, refl, ap}
 use mathlib.Core.List.{List, [], _∷_, _++_}
 use mathlib.Core.Logic.{_≢_}
 use Prim.Native.Nat.{ℕ}
-use lib.IntN.{ℤ, pos, _+ℤ_}
+use lib.IntN.{pos, _+ℤ_}
 use Rattle.ticks.proofs.Ints.{ints, sum}
 use Rattle.flow.specs.Flow.{Flow}
 use Rattle.flow.specs.Walk.{Walk, gain, sources, Every, Distinct}

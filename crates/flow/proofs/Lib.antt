@@ -14,3 +14,6 @@ pub mod Agree
 pub mod Sizes
 pub mod Example
 pub mod Joined
+pub mod Path
+pub mod HasPath
+pub mod SamePath

@@ -23,7 +23,7 @@ lowest-unique P m n h k = elim (decLt m n) [
 ]
 
 -- the lowest number of a decided property, found from below
-lowest : (P : ℕ → Type 0) → ((n : ℕ) → Dec (P n)) → (n : ℕ) → P n → (m : ℕ) × (m ≤ n) × Lowest P m
+pub lowest : (P : ℕ → Type 0) → ((n : ℕ) → Dec (P n)) → (n : ℕ) → P n → (m : ℕ) × (m ≤ n) × Lowest P m
 lowest P dec zero h = (zero, omega arith, record { holds = h; lowest = λ m k p. omega arith })
 lowest P dec (suc n) h = go (dec zero) (lowest (λ m. P (suc m)) (λ m. dec (suc m)) n h)
   where

@@ -8,9 +8,9 @@ use lib.IntN.{ℤ}
 use Rattle.ticks.proofs.Order.{≤ℤ-trans}
 use Rattle.ticks.proofs.Extremes.{max-right}
 use Rattle.flow.specs.Flow.{Flow, Good, Side, late, early, When, none, at, brings, arrival, departs, next}
-use Rattle.flow.specs.Bounds.{Inside, Bounded, Nested, neither, nested, Covers, Kept, Keeps, Within}
+use Rattle.flow.specs.Bounds.{Inside, Bounded, Unentered, Nested, neither, nested, Covers, Kept, Keeps, Within}
 use Rattle.flow.proofs.Sides.{inside-refl, inside-trans, inside-plus, inside-max}
-use Rattle.flow.proofs.Arrival.{Unentered, Found, nothing, found, find, arrival-none}
+use Rattle.flow.proofs.Arrival.{Found, nothing, found, find, arrival-none}
 
 -- two arrivals as they meet at a node: nested, or g has lost all arcs into it
 data Met : Side → When → When → Type 0 where

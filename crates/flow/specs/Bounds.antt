@@ -19,6 +19,10 @@ Bounded s f D E = (i : ℕ) → i < f .nodes → Inside s (D i) (E i)
 abbrev pub Agree : Flow → (ℕ → ℤ) → (ℕ → ℤ) → Type 0
 Agree f D E = (i : ℕ) → i < f .nodes → D i ≡ E i
 
+-- none of the first n arcs enters i
+abbrev pub Unentered : Flow → ℕ → ℕ → Type 0
+Unentered f i n = (a : ℕ) → a < n → f .target a ≢ i
+
 -- of the first n arcs, a is the lowest-numbered that brings the time t to node i, and t bounds what any of them brings there
 pub record Gives (s : Side) (f : Flow) (D : ℕ → ℤ) (i n : ℕ) (t : ℤ) (a : ℕ) : Type 0 where
   pub here : a < n

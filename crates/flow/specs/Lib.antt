@@ -2,3 +2,4 @@ pub mod Flow
 pub mod Bounds
 pub mod Walk
 pub mod Rank
+pub mod Path

@@ -1,25 +1,23 @@
 -- An image is accepted exactly where it is valid. Each rule's test fails exactly where what the rule forbids does not
 -- hold, and an answer is Good exactly where every test fails.
-use mathlib.Core.Path.{_≡_, refl, sym, ap, _∙_}
-use mathlib.Core.Bool.{Bool, true, false, _||_, _&&_, not}
+use mathlib.Core.Path.{_≡_, refl}
+use mathlib.Core.Bool.{Bool, true, false, not}
 use mathlib.Core.List.{List}
-use mathlib.Core.Logic.{_↔_, _⊎_, inl, inr}
+use mathlib.Core.Logic.{_↔_}
 use Prim.Native.Nat.{ℕ, zero, suc, _+_, _*_, _-_, _<_, _≤_}
 use native.Mathlib.Omega.{arith}
-use lib.Dec.{ltb, leb, eqb}
+use lib.Dec.{ltb, eqb}
 use lib.ListN.{length}
-use borrow.Author.Tests.{ltb-false, le-ltb, ltb-true, lt-ltb, eqb-true, eq-eqb, not-false}
-use Rattle.image.specs.Kind.{headerOf, imageOf, mostPhases, mostSynchronizers, mostArcs, longestCycle, longestDelay}
-use Rattle.image.specs.Records.{phaseAt, synchronizerAt, arcAt}
-use Rattle.image.specs.Rules.{badCycle, badCounts, badLayout, badPhase, badSynchronizer, badArc, badOrder, breaksOf, lowestOf, precedes}
-use Rattle.image.specs.Checks.{refuse, refuseAt, recordsOf, checkOf}
-use Rattle.image.specs.Valid.{imageIn, phaseIn, synchronizerIn, arcIn, ValidPhase, ValidSynchronizer, ValidArc, Before, Valid}
-use Rattle.image.specs.declared.kind.Header.{Header}
+use borrow.Author.Tests.{ltb-false, le-ltb}
+use Rattle.image.specs.Kind.{headerOf, mostPhases, mostSynchronizers, mostArcs, longestCycle, longestDelay}
+use Rattle.image.specs.Rules.{badCycle, badCounts, badLayout, badPhase, badSynchronizer, badArc, badOrder, lowestOf, precedes}
+use Rattle.image.specs.Checks.{refuse, recordsOf, checkOf}
+use Rattle.image.specs.Valid.{imageIn, phaseIn, synchronizerIn, arcIn, Before, Valid}
 use Rattle.image.specs.declared.kind.Image.{Image}
 use Rattle.image.specs.declared.records.Arc.{Arc}
 use Rattle.image.specs.declared.rules.Rule.the-variants as rule
 use Rattle.image.specs.declared.checks.Checked.{Checked}
-use Rattle.image.specs.declared.checks.Checked.the-variants.{Good, Refused}
+use Rattle.image.specs.declared.checks.Checked.the-variants.{Good}
 use Rattle.image.proofs.Lowest.{lowest-is, lowest-eq}
 use Rattle.image.proofs.Tests.{ltb-iff, leb-iff, differs-iff, below-iff, same-iff, or-iff, and-iff, either-iff, both-iff, not-iff}
 

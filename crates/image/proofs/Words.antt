@@ -3,7 +3,7 @@ use mathlib.Core.Path.{_≡_}
 use mathlib.Core.List.{List}
 use Prim.Native.Nat.{ℕ, _+_, _≤_}
 use native.Mathlib.Omega.{arith}
-use lib.ListN.{length, getD, List·getD-eq-default}
+use lib.ListN.{length, List·getD-eq-default}
 use Rattle.image.specs.Words.{byteAt, wordAt}
 
 pub byte-past : (bytes : List ℕ) (at : ℕ) → length bytes ≤ at → byteAt bytes at ≡ 0

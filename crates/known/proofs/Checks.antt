@@ -1,7 +1,7 @@
 -- A check of P: a test that computes, with the proof that P holds where the test passes. Checks of the parts of a statement make a
 -- check of the whole, so a closed statement is proved by computing one Bool.
 use mathlib.Core.Path.{_≡_, refl, ap, ap₂}
-use mathlib.Core.Bool.{Bool, true, false, _&&_, not}
+use mathlib.Core.Bool.{Bool, true, false, _&&_, _||_, not}
 use mathlib.Core.List.{List, [], _∷_}
 use mathlib.Core.Logic.{_≢_}
 use Prim.Native.Nat.{ℕ, zero, suc, _≤_, _<_}
@@ -9,6 +9,7 @@ use native.Mathlib.Omega.{arith}
 use lib.Dec.{T, T-not, ltb, leb, eqb, ltb→lt, leb→le, eqb→eq, eqb-refl}
 use lib.IntN.{ℤ, pos, negsuc}
 use lib.Signed.{_<ℤ_, ltZ, ltZ-yes}
+use Rattle.ticks.proofs.Ints.{ints}
 use Rattle.flow.specs.Walk.{Every, Distinct}
 use Rattle.flow.proofs.Below.{below-suc}
 
@@ -40,6 +41,15 @@ p and q = record {
   sound = λ t. (p .sound (left (p .test) (q .test) t), q .sound (right (p .test) (q .test) t));
 }
 
+-- two ways to check one thing
+pub one-of : {P : Type 0} (a b : Bool) → (T a → P) → (T b → P) → T (a || b) → P
+one-of true b p q t = p tt
+one-of false b p q t = q t
+
+infixr 20 _or_
+abbrev pub _or_ : {P : Type 0} → Check P → Check P → Check P
+p or q = record { test = p .test || q .test; sound = one-of (p .test) (q .test) (p .sound) (q .sound) }
+
 -- numbers
 abbrev pub less : (a b : ℕ) → Check (a < b)
 less a b = record { test = ltb a b; sound = ltb→lt a b }
@@ -65,6 +75,9 @@ equalℤ (pos a) (negsuc b) = never
 equalℤ (negsuc a) (pos b) = never
 equalℤ (negsuc a) (negsuc b) = given (ap negsuc) (equal a b)
 
+abbrev pub unequalℤ : (a b : ℤ) → Check (a ≢ b)
+unequalℤ a b = given (λ h e. let k : a <ℤ b = h in omega ints) (lessℤ a b) or given (λ h e. let k : b <ℤ a = h in omega ints) (lessℤ b a)
+
 pub true-sound : (b : Bool) → T b → b ≡ true
 true-sound true t = refl
 true-sound false t = absurd t
@@ -73,11 +86,11 @@ abbrev pub isTrue : (b : Bool) → Check (b ≡ true)
 isTrue b = record { test = b; sound = true-sound b }
 
 -- lists
-abbrev pub equals : (xs ys : List ℤ) → Check (xs ≡ ys)
-equals [] [] = record { test = true; sound = λ t. refl }
-equals [] (y ∷ ys) = never
-equals (x ∷ xs) [] = never
-equals (x ∷ xs) (y ∷ ys) = given (λ h. ap₂ _∷_ (h .0) (h .1)) (equalℤ x y and equals xs ys)
+abbrev pub equals : {A : Type 0} → ((x y : A) → Check (x ≡ y)) → (xs ys : List A) → Check (xs ≡ ys)
+equals check [] [] = record { test = true; sound = λ t. refl }
+equals check [] (y ∷ ys) = never
+equals check (x ∷ xs) [] = never
+equals check (x ∷ xs) (y ∷ ys) = given (λ h. ap₂ _∷_ (h .0) (h .1)) (check x y and equals check xs ys)
 
 abbrev pub every : {P : ℕ → Type 0} → ((x : ℕ) → Check (P x)) → (xs : List ℕ) → Check (Every P xs)
 every check [] = always

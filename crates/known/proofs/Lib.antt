@@ -1,5 +1,6 @@
 pub mod Words
 pub mod Checks
+pub mod Traces
 pub mod Outcomes
 pub mod Computes
 pub mod Known

@@ -15,7 +15,7 @@ use Rattle.flow.specs.Bounds.{Agree}
 use Rattle.flow.specs.Walk.{Walk, gain, GrowingRing}
 use Rattle.flow.proofs.Agree.{next-agree}
 use Rattle.flow.proofs.Walks.{fits-calm}
-use Rattle.circuit.specs.Circuit.{Circuit, circuitOf}
+use Rattle.circuit.specs.Circuit.{circuitOf}
 use Rattle.circuit.specs.Clock.{flow, delay}
 use Rattle.circuit.specs.Times.{Calm}
 use Rattle.circuit.proofs.Sound.{sound, good}

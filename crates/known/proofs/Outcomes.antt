@@ -20,8 +20,9 @@ use Rattle.circuit.specs.Circuit.{Circuit, circuitOf}
 use Rattle.circuit.specs.Clock.{flow}
 use Rattle.circuit.proofs.Sound.{Sound, sound, good}
 use Rattle.circuit.specs.Times.{results, missedSetups, missedHolds}
-use Rattle.known.specs.Circuits.{Outcome, timed, growing, Known}
-use Rattle.known.specs.Holds.{Timed, Grows, Comes, Holds, Every}
+use Rattle.known.specs.Circuits.{Outcome, timed, growing, path, Known}
+use Rattle.known.specs.Holds.{Timed, Grows, Led, Comes, Holds, Every}
+use Rattle.known.proofs.Traces.{tracing}
 use Rattle.known.proofs.Checks.{Check, given, always, never, _and_, less, atMost, equal, lessℤ, equalℤ, isTrue, equals, every, distinct, below}
 
 -- an answer that accepts
@@ -56,7 +57,7 @@ timing c numbers setups holds =
     })
     (settling early (flow early c) n
     and settling late (flow late c) n
-    and equals (results c E D (c .synchronizers)) numbers
+    and equals equalℤ (results c E D (c .synchronizers)) numbers
     and equal (missedSetups c D) setups
     and equal (missedHolds c E) holds)
 
@@ -92,9 +93,20 @@ growth c (a ∷ p) total =
     and every (atMost i) (sources f (a ∷ p))
     and equalℤ (gain f (a ∷ p)) total)
 
+-- the path, by the departures that the rounds settle at
+abbrev leading : (c : Circuit) (i s : ℕ) (arcs : List ℕ) → Check (Sound c → Led c i s arcs)
+leading c i s arcs =
+    let n = pred (c .synchronizers) in
+    given
+    (λ h v.
+    let least = settled-least late (flow late c) (good late c v) n (h .0) in
+    record { latest = round late (flow late c) n; least = least; leads = h .1 (good late c v) (least .fits) })
+    (settling late (flow late c) n and tracing (flow late c) n i s arcs)
+
 abbrev coming : (c : Circuit) (o : Outcome) → Check (Sound c → Comes c o)
 coming c (timed numbers setups holds) = timing c numbers setups holds
 coming c (growing arcs total) = growth c arcs total
+coming c (path i s arcs) = leading c i s arcs
 
 -- all that is known of one circuit, and of a list of them
 abbrev pub holding : (k : Known) → Check (Holds k)

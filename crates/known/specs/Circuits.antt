@@ -1,4 +1,4 @@
--- The circuits with known numbers of document 01, as the bytes of their images, and what is known of each. (P6 is a path question.)
+-- The circuits with known numbers of document 01, as the bytes of their images, and what is known of each.
 use mathlib.Core.List.{List, [], _∷_}
 use Prim.Native.Nat.{ℕ}
 use lib.IntN.{ℤ, pos, negℤ}
@@ -51,6 +51,8 @@ pub data Outcome : Type 0 where
   timed : List ℤ → ℕ → ℕ → Outcome
   -- the arcs of a growing ring in order of travel, the first leaving its lowest-numbered synchronizer, and the ring's gain
   growing : List ℕ → ℤ → Outcome
+  -- the path to a synchronizer: that synchronizer, the launching one, the arcs in order of travel
+  path : ℕ → ℕ → List ℕ → Outcome
 
 pub record Known : Type 0 where
   -- P1 is 1
@@ -92,6 +94,7 @@ known =
           pos 60 ∷ pos 60 ∷ pos 60 ∷ pos 60 ∷ pos 55 ∷ pos 30 ∷
           pos 80 ∷ pos 80 ∷ pos 80 ∷ pos 80 ∷ pos 75 ∷ pos 10 ∷ []) 0 0;
     } ∷
+    record { number = 6; bytes = p1; outcome = path 0 0 (1 ∷ 0 ∷ []) } ∷
     record {
       number = 7;
       bytes = p7;
@@ -114,5 +117,6 @@ known =
           pos 60 ∷ pos 90 ∷ pos 60 ∷ pos 90 ∷ pos 60 ∷ pos 10 ∷
           pos 60 ∷ pos 120 ∷ pos 60 ∷ pos 120 ∷ pos 60 ∷ minus 20 ∷ []) 1 0;
     } ∷
+    record { number = 9; bytes = p9; outcome = path 2 0 (0 ∷ 1 ∷ []) } ∷
     record { number = 10; bytes = p10; outcome = timed [] 0 0 } ∷
     []

@@ -6,13 +6,14 @@ use lib.IntN.{ℤ}
 use Rattle.image.specs.Checks.{checkOf}
 use Rattle.image.specs.Valid.{imageIn}
 use Rattle.image.specs.declared.checks.Checked.the-variants.{Good}
-use Rattle.flow.specs.Flow.{late}
+use Rattle.flow.specs.Flow.{late, Least}
 use Rattle.flow.specs.Walk as walk
 use Rattle.flow.specs.Walk.{GrowingRing, sources, gain}
+use Rattle.flow.specs.Path.{PathTo}
 use Rattle.circuit.specs.Circuit.{Circuit, circuitOf}
 use Rattle.circuit.specs.Clock.{flow}
 use Rattle.circuit.specs.Times.{Times, Growing, results, missedSetups, missedHolds}
-use Rattle.known.specs.Circuits.{Outcome, timed, growing, Known}
+use Rattle.known.specs.Circuits.{Outcome, timed, growing, path, Known}
 
 -- the least departures give these results and these counts
 pub record Timed (c : Circuit) (numbers : List ℤ) (setups holds : ℕ) : Type 0 where
@@ -31,9 +32,16 @@ pub record Grows (c : Circuit) (arcs : List ℕ) (total : ℤ) : Type 0 where
   pub lowest : walk.Every (λ i. loop .ring .start ≤ i) (sources (flow late c) arcs)
   pub gains : gain (flow late c) arcs ≡ total
 
+-- by the least late departures, the path to i is launched at s and has these arcs
+pub record Led (c : Circuit) (i s : ℕ) (arcs : List ℕ) : Type 0 where
+  pub latest : ℕ → ℤ
+  pub least : Least late (flow late c) latest
+  pub leads : PathTo (flow late c) latest i s arcs
+
 abbrev pub Comes : Circuit → Outcome → Type 0
 Comes c (timed numbers setups holds) = Timed c numbers setups holds
 Comes c (growing arcs total) = Grows c arcs total
+Comes c (path i s arcs) = Led c i s arcs
 
 -- the image is accepted, and its circuit comes out as known
 pub record Holds (k : Known) : Type 0 where

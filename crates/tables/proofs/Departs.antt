@@ -3,10 +3,9 @@ use mathlib.Core.Path.{_≡_, refl}
 use mathlib.Core.Bool.{Bool, true, false, cond}
 use Prim.Native.Nat.{ℕ, _+_, _-_, _<_, _≤_, max}
 use native.Mathlib.Omega.{arith}
-use lib.Dec.{eqb}
 use borrow.Author.Tests.{eq-eqb, ne-eqb}
 use Rattle.flow.specs.Flow.{Side}
-use Rattle.tables.specs.Net.{Net, degree, arrivalN, departing, departN}
+use Rattle.tables.specs.Net.{Net, degree, arrivalN, departN}
 
 module _ (s : Side) (n : Net) (D : ℕ → ℕ) (i : ℕ) where
   pub depart-arc : n .latch i ≡ true → n .first i < n .first (i + 1) → departN s n D i ≡ max (arrivalN s n D i) (n .launch i)

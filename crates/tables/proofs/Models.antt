@@ -1,19 +1,15 @@
 -- Tables that hold a flow reckon what the flow defines: arrivals, departures and rounds are the flow's, raised.
 use mathlib.Core.Path.{_≡_, refl, sym, ap, _∙_}
-use mathlib.Core.Bool.{Bool, true, false, cond}
-use mathlib.Core.Logic.{_⊎_, inl, inr, _≢_}
-use Prim.Native.Nat.{ℕ, zero, suc, _+_, _-_, _<_, _≤_, max, min}
+use mathlib.Core.Bool.{Bool, true, false}
+use mathlib.Core.Logic.{_≢_}
+use Prim.Native.Nat.{ℕ, zero, suc, _+_, _-_, _<_, _≤_}
 use native.Mathlib.Omega.{arith}
-use native.Mathlib.Numerals.{add-one}
-use lib.Dec.{eqb, ltb}
-use lib.IntN.{ℤ, pos, subℕ, _+ℤ_}
-use lib.Signed.{_≤ℤ_}
-use borrow.Author.Tests.{eq-eqb, ne-eqb, eqb-true, eqb-false}
-use Rattle.ticks.specs.Raised.{RAISE, lower}
-use Rattle.ticks.specs.Extremes.{maxℤ, minℤ}
+use lib.IntN.{ℤ, subℕ}
+use borrow.Author.Tests.{eq-eqb, ne-eqb}
+use Rattle.ticks.specs.Raised.{lower}
 use Rattle.ticks.proofs.Ints.{ints, sum, apart}
 use Rattle.ticks.proofs.Raised.{span, lower-max, lower-min}
-use Rattle.flow.specs.Flow.{Flow, Good, Side, late, early, When, none, at, pick, join, brings, into, arrival, departs, next, round}
+use Rattle.flow.specs.Flow.{Flow, Good, Side, late, early, When, none, at, pick, join, brings, into, arrival, departs, next}
 use Rattle.tables.specs.Models.{Models}
 use Rattle.tables.specs.Net.{Net, brought, better, unseen, best, degree, arrivalN, departing, departN, Ranged}
 

@@ -1,15 +1,15 @@
 -- Rounds on the tables are the flow's rounds, raised, as long as these stay small.
-use mathlib.Core.Path.{_≡_, refl, _∙_}
-use Prim.Native.Nat.{ℕ, zero, suc, _+_, _<_, _≤_}
+use mathlib.Core.Path.{_≡_, _∙_}
+use Prim.Native.Nat.{ℕ, zero, suc, _<_, _≤_}
 use native.Mathlib.Omega.{arith}
 use lib.IntN.{ℤ, pos}
 use lib.Signed.{_≤ℤ_}
-use Rattle.ticks.specs.Raised.{RAISE, lower}
+use Rattle.ticks.specs.Raised.{lower}
 use Rattle.ticks.proofs.Ints.{ints}
 use Rattle.ticks.proofs.Raised.{span}
-use Rattle.flow.specs.Flow.{Flow, Good, Side, next, round}
+use Rattle.flow.specs.Flow.{Flow, Good, Side, round}
 use Rattle.flow.proofs.Agree.{next-agree}
-use Rattle.tables.specs.Net.{Net, departN, roundN, Ranged}
+use Rattle.tables.specs.Net.{Net, roundN, Ranged}
 use Rattle.tables.specs.Models.{Models}
 use Rattle.tables.proofs.Models.{lowered, depart-models}
 

@@ -1,26 +1,26 @@
 -- From the tables of a sound circuit back to its times: rounds stay modest, tables that hold a flow can be worked with, and rounds that
 -- settled on them are the least departures, raised.
 use mathlib.Core.Path.{_≡_, refl, sym, ap, _∙_}
-use Prim.Native.Nat.{ℕ, suc, _+_, _*_, _<_, _≤_}
+use Prim.Native.Nat.{ℕ, suc, _*_, _<_, _≤_}
 use native.Mathlib.Omega.{arith}
-use lib.IntN.{ℤ, pos, _+ℤ_}
+use lib.IntN.{ℤ, pos}
 use lib.Signed.{_≤ℤ_}
 use Rattle.ticks.specs.Raised.{lower}
 use Rattle.ticks.proofs.Ints.{ints, sum}
 use Rattle.ticks.proofs.Order.{≤ℤ-trans}
 use Rattle.ticks.proofs.Raised.{lower-injective}
-use Rattle.flow.specs.Flow.{Flow, Side, late, early, round, Fits, Least, Settled}
+use Rattle.flow.specs.Flow.{Side, late, early, round, Fits, Least}
 use Rattle.flow.proofs.Sizes.{round-size, launch-round}
 use Rattle.flow.proofs.Rounds.{settled-least}
 use Rattle.flow.proofs.Agree.{least-agree}
 use Rattle.flow.proofs.Settles.{within-settles}
 use Rattle.circuit.specs.Circuit.{Circuit}
-use Rattle.circuit.specs.Clock.{flow, launch}
+use Rattle.circuit.specs.Clock.{flow}
 use Rattle.circuit.proofs.Sound.{Sound, good}
 use Rattle.circuit.proofs.Ranges.{launch-range, weight-high, early-within}
 use Rattle.tables.specs.Net.{Net, roundN, Shaped}
 use Rattle.tables.specs.Models.{Models}
-use Rattle.tables.specs.Held.{Held, Tame, Unsettled, Settling, settled, unsettled}
+use Rattle.tables.specs.Held.{Held, Tame, Unsettled}
 use Rattle.tables.proofs.Models.{lowered}
 use Rattle.tables.proofs.Rounds.{Modest, round-models, round-ranged}
 

@@ -28,3 +28,4 @@ pub mod Replayed
 -- the call, and what its promise leaves open
 pub mod Work
 pub mod Only
+pub mod OnePath

@@ -1,10 +1,10 @@
 -- The promise of timing leaves one outcome, but for the growing ring that is shown. The cases are told apart by questions asked in
 -- order: is the image refused, are there too few numbers, too few arcs, does a ring grow? The first that is answered with yes is
 -- one number, and within a case everything that is left follows from the input.
-use mathlib.Core.Path.{_≡_, refl, sym, ap, _∙_}
+use mathlib.Core.Path.{_≡_, refl, sym, _∙_}
 use mathlib.Core.List.{List, _++_}
 use mathlib.Core.Logic.{_⊎_, inl, inr}
-use Prim.Native.Nat.{ℕ, zero, suc, _+_, _*_, _≤_, _<_}
+use Prim.Native.Nat.{ℕ, zero, suc, _+_, _*_, _<_}
 use native.Mathlib.Omega.{arith}
 use lib.IntN.{ℤ}
 use lib.ListN.{length, drop}
@@ -22,7 +22,7 @@ use Rattle.circuit.specs.Clock.{flow}
 use Rattle.circuit.specs.Times.{Times, missedSetups, missedHolds, results}
 use Rattle.circuit.proofs.Sound.{Sound, sound, good}
 use Rattle.circuit.proofs.Unique.{results-same, setups-same, holds-same}
-use Rattle.timing.specs.Promise.{Served, Timing, refused, few-numbers, few-arcs, growing, timed}
+use Rattle.timing.specs.Promise.{Timing, refused, few-numbers, few-arcs, growing, timed}
 use Rattle.timing.specs.declared.call.Answer.{Answer}
 use Rattle.timing.specs.declared.call.Answer.the-variants.{Refused, Growing, Timed}
 

@@ -1,16 +1,15 @@
 -- Working the rounds out: the table holds round k, whose last step moved a node. A round that moves none has settled, and where as
 -- many rounds as there are nodes have moved one each, the rounds do not settle in time.
-use mathlib.Core.Path.{_≡_, refl, sym, _∙_}
-use mathlib.Core.Bool.{Bool, true, false, not}
+use mathlib.Core.Path.{_≡_, sym, _∙_}
+use mathlib.Core.Bool.{Bool, true, false}
 use mathlib.Core.List.{List}
 use Prim.Native.Nat.{ℕ, zero, suc, _+_, _<_, _≤_}
 use native.Mathlib.Omega.{arith}
-use lib.Dec.{eqb}
 use lib.ListN.{length, getD}
 use borrow.Author.Tests.{not-true, not-false, eqb-true, eqb-false}
 use Rattle.flow.specs.Flow.{Side}
-use Rattle.tables.specs.Net.{Net, timesOf, departN, moves, anyOf, roundN}
-use Rattle.tables.specs.Held.{Tame, Unsettled, Settling, settled, unsettled}
+use Rattle.tables.specs.Net.{Net, timesOf, departN, moves, roundN}
+use Rattle.tables.specs.Held.{Unsettled, Settling, settled, unsettled}
 use Rattle.tables.proofs.Same.{depart-same}
 use Rattle.tables.proofs.Moves.{none-of, some-of}
 use Rattle.timing.specs.Ready.{Ready, Works, Rounded}

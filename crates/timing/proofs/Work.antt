@@ -1,6 +1,6 @@
 -- The parts put together: loaded tables can be worked with, rounds that settled on them are the least departures, and early rounds
 -- settle where late ones did.
-use mathlib.Core.Path.{_≡_, refl, sym, _∙_}
+use mathlib.Core.Path.{_≡_, refl}
 use mathlib.Core.Bool.{Bool, true, false}
 use mathlib.Core.List.{List}
 use mathlib.Core.Logic.{_⊎_, inl, inr}

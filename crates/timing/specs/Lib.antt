@@ -4,3 +4,4 @@ pub mod Results
 pub mod Ring
 pub mod Told
 pub mod Promise
+pub mod Paths

@@ -9,7 +9,7 @@ use Rattle.image.specs.Valid.{imageIn}
 use Rattle.image.specs.declared.checks.Checked.the-variants.{Good}
 use Rattle.image.specs.declared.checks.Checked.the-variants as check
 use Rattle.flow.specs.Flow.{late}
-use Rattle.circuit.specs.Circuit.{Circuit, circuitOf}
+use Rattle.circuit.specs.Circuit.{circuitOf}
 use Rattle.circuit.specs.Clock.{flow}
 use Rattle.circuit.specs.Times.{Times, missedSetups, missedHolds, results}
 use Rattle.flow.specs.Walk.{Shown}

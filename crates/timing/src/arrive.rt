@@ -3,7 +3,7 @@ ghost use mathlib.Core.Path.{_≡_};
 ghost use Prim.Native.Nat.{_+_, _-_, _≤_, _<_, max, min};
 ghost use lib.ListN.{getD};
 ghost use Rattle.ticks.specs.Raised.{RAISE};
-ghost use Rattle.tables.specs.Net.{sideOf, timesOf, arcsOf, netOf, brought, better, unseen, best, departing, departN, Shaped, Ranged};
+ghost use Rattle.tables.specs.Net.{sideOf, timesOf, arcsOf, brought, better, unseen, best};
 ghost use Rattle.timing.specs.Ready.{Reachable};
 
 pub(crate) fn wide(x: u32) -> u64

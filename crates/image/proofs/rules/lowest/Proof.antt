@@ -5,7 +5,7 @@ use Prim.Native.Nat.{ℕ, _≤_, _<_, _-_}
 use native.Mathlib.Omega.{arith}
 use borrow.Author.Count.{below-none, below-more}
 use borrow.Author.Needs.{needs}
-use Rattle.image.specs.Rules.{breaksOf, lowestOf}
+use Rattle.image.specs.Rules.{breaksOf}
 use Rattle.image.proofs.Lowest.{lowest-eq}
 use Rattle.image.proofs.rules.lowest.Statement.{statement}
 use Rattle.image.proofs.rules.lowest.Tie as tie

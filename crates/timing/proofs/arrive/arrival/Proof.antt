@@ -1,9 +1,9 @@
 -- `arrival` walks the arcs: what it holds at arc a is the best of the arcs before it.
-use mathlib.Core.Path.{_≡_, sym, ap, _∙_}
-use Prim.Native.Nat.{_+_, _-_, _≤_, _<_}
+use mathlib.Core.Path.{_≡_, sym, _∙_}
+use Prim.Native.Nat.{_-_, _≤_, _<_}
 use native.Mathlib.Omega.{arith}
 use borrow.Author.Needs.{needs}
-use Rattle.tables.specs.Net.{sideOf, timesOf, arcsOf, better}
+use Rattle.tables.specs.Net.{sideOf, timesOf, arcsOf}
 use Rattle.tables.specs.Net as walked
 use Rattle.tables.proofs.Best.{best-none, best-more}
 use Rattle.timing.proofs.arrive.arrival.Statement.{statement}

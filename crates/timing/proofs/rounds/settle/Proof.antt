@@ -4,7 +4,7 @@ use Prim.Native.Nat.{_-_}
 use native.Mathlib.Omega.{arith}
 use borrow.Author.Needs.{needs}
 use borrow.Author.Tests.{not-true, not-false}
-use Rattle.tables.specs.Net.{sideOf, timesOf, arcsOf, netOf}
+use Rattle.tables.specs.Net.{sideOf, arcsOf, netOf}
 use Rattle.timing.proofs.Settling.{Reached, reach-none, reach-works, reach-settled, reach-more, reach-end, reach-empty}
 use Rattle.timing.proofs.rounds.settle.Statement.{statement}
 use Rattle.timing.proofs.rounds.settle.Tie as tie
