@@ -11,7 +11,7 @@ use Rattle.image.specs.declared.rules.Rule.the-variants.{Phases, Synchro
 use Rattle.image.specs.declared.checks.Checked.{Checked}
 use Rattle.image.specs.declared.checks.Checked.the-variants.{Good, Refused}
 
--- a rule about the whole image: refused by its number, with record 0, where the test holds
+-- where the test holds, refused by the number of its rule and the record at fault (0 for a rule about the whole image)
 abbrev pub refuse : Bool → ℕ → ℕ → Checked → Checked
 refuse true rule culprit rest = Refused rule culprit
 refuse false rule culprit rest = rest
