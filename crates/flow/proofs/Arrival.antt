@@ -1,6 +1,6 @@
 -- What an arrival is: on either side one of the times that the arcs bring, which bounds them all. By one recursion over the
 -- arcs, which finds the lowest-numbered arc that brings it.
-use mathlib.Core.Path.{_≡_, refl}
+use mathlib.Core.Path.{_≡_, refl, ap}
 use mathlib.Core.Bool.{Bool, true, false}
 use mathlib.Core.Logic.{inl, inr, _≢_, _↔_}
 use Prim.Native.Nat.{ℕ, zero, suc, _<_}
@@ -85,6 +85,15 @@ module _ (s : Side) (f : Flow) (D : ℕ → ℤ) (i : ℕ) where
       from : {w : When} → Found s f D i (f .arcs) w → (a : ℕ) → Gives s f D i (f .arcs) t a → w ≡ at t
       from (nothing h) a g = absurd (h a (g .here) (g .enters))
       from (found {t = u} b h) a g = rw (gives-time (f .arcs) u t b a h g)
+
+  -- what an arc brings is the arrival, where it bounds what the others bring
+  pub arrival-by : (a : ℕ) → a < f .arcs → f .target a ≡ i →
+      ((b : ℕ) → b < f .arcs → f .target b ≡ i → Inside s (brings f D b) (brings f D a)) → arrival s f D i ≡ at (brings f D a)
+  arrival-by a l e bounds = go find
+    where
+      go : {w : When} → Found s f D i (f .arcs) w → w ≡ at (brings f D a)
+      go (nothing h) = absurd (h a l e)
+      go (found {t = u} b h) = ap at (inside-antisym s u (brings f D a) (rw (h .gives) at (bounds b (h .here) (h .enters))) (h .bounds a l e))
 
   pub arrival-none : arrival s f D i ≡ none ↔ Unentered f i (f .arcs)
   arrival-none = (to find, from find)

@@ -7,6 +7,8 @@ use lib.ListN.{length, drop}
 use Rattle.circuit.specs.Circuit.{circuitOf}
 use Rattle.timing.specs.Promise.{Timing}
 use Rattle.timing.specs.Paths as paths
+use Rattle.timing.specs.declared.ask.Way.{Way}
+use Rattle.timing.specs.declared.ask.Way.the-variants as way
 use Rattle.timing.specs.declared.call.Answer.{Answer}
 use Rattle.timing.specs.declared.call.Answer.the-variants as answer
 use Rattle.known.specs.Circuits.{Outcome, timed, growing, path, Known}
@@ -24,7 +26,7 @@ Gives bytes (timed results setups holds) = Times bytes λ numbers arcs X R A.
 Gives bytes (growing ring total) = Times bytes λ numbers arcs X R A. ((n : ℕ) × (g : ℤ) × (X ≡ answer.Growing n g)) × (R ≡ numbers)
 Gives bytes (path i s p) =
     (arcs : List ℕ) → circuitOf bytes .synchronizers ≤ length arcs →
-    (X : paths.Answer) (A : List ℕ) → paths.PathCall bytes i arcs X A → (X ≡ paths.Found s (length p)) × (A ≡ p ++ drop (length p) arcs)
+    (X : Way) (A : List ℕ) → paths.PathCall bytes i arcs X A → (X ≡ way.Found s (length p)) × (A ≡ p ++ drop (length p) arcs)
 
 abbrev pub Answers : Known → Type 0
 Answers k = Gives (k .bytes) (k .outcome)

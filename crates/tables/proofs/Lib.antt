@@ -8,3 +8,5 @@ pub mod Departs
 pub mod Filled
 pub mod Worked
 pub mod Climb
+pub mod Nearer
+pub mod Trails

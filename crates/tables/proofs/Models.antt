@@ -32,7 +32,7 @@ first-better late b l = omega arith
 first-better early b l = omega arith
 
 module _ (s : Side) (n : Net) (f : Flow) (good : Good f) (models : Models n f) (D : ℕ → ℕ) (ranged : Ranged (f .nodes) D) where
-  brought-lower : (a : ℕ) → a < f .arcs → lower (brought (n .arcs) D a) ≡ brings f (lowered D) a
+  pub brought-lower : (a : ℕ) → a < f .arcs → lower (brought (n .arcs) D a) ≡ brings f (lowered D) a
   brought-lower a l =
       let x = D (f .source a) in
       let h = ranged .low (f .source a) (good .leaves a l) in

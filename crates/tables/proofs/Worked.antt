@@ -1,17 +1,19 @@
 -- From the tables of a sound circuit back to its times: rounds stay modest, tables that hold a flow can be worked with, and rounds that
 -- settled on them are the least departures, raised.
 use mathlib.Core.Path.{_≡_, refl, sym, ap, _∙_}
-use Prim.Native.Nat.{ℕ, suc, _*_, _<_, _≤_}
+use Prim.Native.Nat.{ℕ, suc, _-_, _*_, _<_, _≤_}
 use native.Mathlib.Omega.{arith}
+use native.Mathlib.Decide.{decLt}
 use lib.IntN.{ℤ, pos}
 use lib.Signed.{_≤ℤ_}
 use Rattle.ticks.specs.Raised.{lower}
 use Rattle.ticks.proofs.Ints.{ints, sum}
 use Rattle.ticks.proofs.Order.{≤ℤ-trans}
-use Rattle.ticks.proofs.Raised.{lower-injective}
+use Rattle.ticks.proofs.Raised.{le-lower, lower-injective}
 use Rattle.flow.specs.Flow.{Side, late, early, round, Fits, Least}
 use Rattle.flow.proofs.Sizes.{round-size, launch-round}
-use Rattle.flow.proofs.Rounds.{settled-least}
+use Rattle.flow.specs.Rank.{Lowest}
+use Rattle.flow.proofs.Rounds.{rises-by, settled-least}
 use Rattle.flow.proofs.Agree.{least-agree}
 use Rattle.flow.proofs.Settles.{within-settles}
 use Rattle.circuit.specs.Circuit.{Circuit}
@@ -20,7 +22,7 @@ use Rattle.circuit.proofs.Sound.{Sound, good}
 use Rattle.circuit.proofs.Ranges.{launch-range, weight-high, early-within}
 use Rattle.tables.specs.Net.{Net, roundN, Shaped}
 use Rattle.tables.specs.Models.{Models}
-use Rattle.tables.specs.Held.{Held, Tame, Unsettled}
+use Rattle.tables.specs.Held.{Held, Tame, Unsettled, FirstAt}
 use Rattle.tables.proofs.Models.{lowered}
 use Rattle.tables.proofs.Rounds.{Modest, round-models, round-ranged}
 
@@ -50,6 +52,8 @@ module _ (c : Circuit) (v : Sound c) (s : Side) where
     tame shaped = record {
       shaped = shaped;
       ranged = λ k h. round-ranged s n (flow s c) (good s c v) models (suc (c .synchronizers)) round-modest k (omega arith);
+      rises = λ j k i h m l. le-lower _ _ (rw (rounds j i (omega arith) l, rounds k i (omega arith) l)
+          (rises-by s (flow s c) (good s c v) (k - j) j k (omega arith) i l));
     }
 
     -- rounds that settled
@@ -60,6 +64,16 @@ module _ (c : Circuit) (v : Sound c) (s : Side) where
         (λ i l. sym (rounds k i (omega arith) l) ∙ ap lower (sym (holds i l))) s
         (settled-least s (flow s c) (good s c v) k
         (λ i l. sym (rounds (suc k) i (omega arith) l) ∙ ap lower (still i l) ∙ rounds k i (omega arith) l))
+
+    -- the first round that reached a departure is the node's rank
+    pub settled-ranks : (D R : ℕ → ℕ) (k : ℕ) → k ≤ c .synchronizers → ((i : ℕ) → i < c .synchronizers → D i ≡ roundN s n k i) →
+        (i : ℕ) → i < c .synchronizers → FirstAt s n i (D i) (R i) → Lowest (λ m. round s (flow s c) m i ≡ lowered D i) (R i)
+    settled-ranks D R k few holds i l h =
+        let top : R i ≤ k = elim (decLt k (R i)) [ yes m ↦ absurd (h .lowest k m (sym (holds i l))) | no m ↦ omega arith ] in
+        record {
+          holds = sym (rounds (R i) i (omega arith) l) ∙ ap lower (h .holds);
+          lowest = λ m j e. h .lowest m j (lower-injective _ _ (rounds m i (omega arith) l ∙ e));
+        }
 
     -- where round l still changes a node, so it does in the flow
     pub still-moves : (u : Unsettled s n (c .synchronizers)) →

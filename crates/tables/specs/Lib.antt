@@ -1,3 +1,4 @@
 pub mod Net
 pub mod Models
 pub mod Held
+pub mod Trail

@@ -25,7 +25,10 @@ pub mod Noted
 pub mod Back
 pub mod Showing
 pub mod Replayed
--- the call, and what its promise leaves open
+-- the path
+pub mod Tracing
+-- the calls, and what their promises leave open
 pub mod Work
+pub mod Asking
 pub mod Only
 pub mod OnePath

@@ -29,7 +29,9 @@ use Rattle.circuit.specs.Circuit.{circuitOf}
 use Rattle.circuit.specs.Clock.{flow}
 use Rattle.circuit.proofs.Sound.{Sound, sound, good}
 use Rattle.circuit.proofs.Solved.{decided, worked, worked-least}
-use Rattle.timing.specs.Paths.{Answer, Refused, Found, Asked, PathCall, refused, few-arcs, no-such, unentered, growing, found}
+use Rattle.timing.specs.declared.ask.Way.{Way}
+use Rattle.timing.specs.declared.ask.Way.the-variants.{Refused, Found}
+use Rattle.timing.specs.Paths.{Asked, PathCall, refused, few-arcs, no-such, unentered, growing, found}
 
 module _ (bytes : List ℕ) (i : ℕ) (arcs : List ℕ) where
   -- the questions, in order; the last is always answered with yes
@@ -42,7 +44,7 @@ module _ (bytes : List ℕ) (i : ℕ) (arcs : List ℕ) where
   Question (suc (suc (suc (suc (suc k))))) = Unit {0}
 
   -- what is left open in each case
-  abbrev Left : ℕ → Answer → List ℕ → Type 0
+  abbrev Left : ℕ → Way → List ℕ → Type 0
   Left zero X A = (rule : ℕ) × (culprit : ℕ) × (checkOf bytes ≡ check.Refused rule culprit) × (X ≡ Refused rule culprit) × (A ≡ arcs)
   Left (suc zero) X A = (X ≡ Refused 11 0) × (A ≡ arcs)
   Left (suc (suc zero)) X A = (X ≡ Refused 12 0) × (A ≡ arcs)
@@ -52,7 +54,7 @@ module _ (bytes : List ℕ) (i : ℕ) (arcs : List ℕ) where
       × Least late (flow late (circuitOf bytes)) D × PathTo (flow late (circuitOf bytes)) D i s p
       × (X ≡ Found s (length p)) × (A ≡ p ++ drop (length p) arcs)
 
-  pub record View (X : Answer) (A : List ℕ) : Type 0 where
+  pub record View (X : Way) (A : List ℕ) : Type 0 where
     pub case : ℕ
     pub first : Lowest Question case
     pub left : Left case X A
@@ -82,7 +84,7 @@ module _ (bytes : List ℕ) (i : ℕ) (arcs : List ℕ) where
   whole : checkOf bytes ≡ check.Good (imageIn bytes) → Good (flow late (circuitOf bytes))
   whole ok = good late (circuitOf bytes) (held ok)
 
-  view : {X : Answer} {A : List ℕ} → PathCall bytes i arcs X A → View X A
+  view : {X : Way} {A : List ℕ} → PathCall bytes i arcs X A → View X A
   view (refused {rule} {culprit} e) = record {
     case = 0;
     first = record { holds = (rule, culprit, e); lowest = λ m l q. omega arith };
@@ -108,7 +110,7 @@ module _ (bytes : List ℕ) (i : ℕ) (arcs : List ℕ) where
           on 4 (past-entry (path .last) asked (w .1) (w .2)) (fits-calm (flow late (circuitOf bytes)) (whole (asked .good)) D (least .fits))
 
   -- within one case
-  alike : (k : ℕ) {X Y : Answer} {A B : List ℕ} → Left k X A → Left k Y B → (X ≡ Y) × (A ≡ B)
+  alike : (k : ℕ) {X Y : Way} {A B : List ℕ} → Left k X A → Left k Y B → (X ≡ Y) × (A ≡ B)
   alike zero h k =
       let e = h .2 in
       let d = k .2 in
@@ -124,7 +126,7 @@ module _ (bytes : List ℕ) (i : ℕ) (arcs : List ℕ) where
       (h .6 ∙ rw (e .0, e .1) (sym (k .6)), h .7 ∙ rw (e .1) (sym (k .7)))
 
   -- two outcomes that keep the promise are the same: the answer, and the buffer as it is left
-  pub path-only : {X Y : Answer} {A B : List ℕ} → PathCall bytes i arcs X A → PathCall bytes i arcs Y B → (X ≡ Y) × (A ≡ B)
+  pub path-only : {X Y : Way} {A B : List ℕ} → PathCall bytes i arcs X A → PathCall bytes i arcs Y B → (X ≡ Y) × (A ≡ B)
   path-only x y =
       let p = view x in
       let q = view y in
@@ -133,7 +135,7 @@ module _ (bytes : List ℕ) (i : ℕ) (arcs : List ℕ) where
 
   -- some outcome keeps the promise: each question is decided
   abbrev Answered : Type 0
-  Answered = (X : Answer) × (A : List ℕ) × PathCall bytes i arcs X A
+  Answered = (X : Way) × (A : List ℕ) × PathCall bytes i arcs X A
 
   entered : (a : ℕ) → Asked bytes i arcs → a < circuitOf bytes .arcs → circuitOf bytes .to a ≡ i → Answered
   entered a asked l e =

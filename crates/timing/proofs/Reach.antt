@@ -1,16 +1,19 @@
 -- Tables of bounded shape and times that can be reckoned with keep a walk over the first arcs within its bounds.
+use mathlib.Core.Path.{_≡_}
 use mathlib.Core.List.{List}
-use Prim.Native.Nat.{ℕ, _≤_}
+use Prim.Native.Nat.{ℕ, _<_, _≤_}
 use native.Mathlib.Omega.{arith}
 use lib.ListN.{getD}
-use Rattle.tables.specs.Net.{timesOf, arcsOf, netOf, Shaped, Ranged}
+use Rattle.tables.specs.Net.{Net, timesOf, Shaped, Ranged}
 use Rattle.timing.specs.Ready.{Reachable}
 
-pub reach : (source lead first launch latch departs : List ℕ) (cycle l m to : ℕ) →
-    Shaped (netOf (arcsOf source lead cycle) first launch latch) l m → Ranged l (timesOf departs) → to ≤ m → Reachable source departs to
-reach source lead first launch latch departs cycle l m to s r h = record {
-  few = omega (arith, s .count);
-  inside = λ a k. omega (arith, s .sources a (omega arith), s .nodes);
-  low = λ a k. r .low (getD source a 0) (s .sources a (omega arith));
-  high = λ a k. r .high (getD source a 0) (s .sources a (omega arith));
-}
+pub reach : (n : Net) (source departs : List ℕ) (l m to : ℕ) → ((a : ℕ) → n .arcs .source a ≡ getD source a 0) →
+    Shaped n l m → Ranged l (timesOf departs) → to ≤ m → Reachable source departs to
+reach n source departs l m to same s r h =
+    let inside : (a : ℕ) → a < to → getD source a 0 < l = λ a k. rw (← same a) (s .sources a (omega arith)) in
+    record {
+      few = omega (arith, s .count);
+      inside = λ a k. omega (arith, inside a k, s .nodes);
+      low = λ a k. r .low (getD source a 0) (inside a k);
+      high = λ a k. r .high (getD source a 0) (inside a k);
+    }

@@ -14,11 +14,8 @@ use Rattle.flow.specs.Walk.{GrowingRing}
 use Rattle.flow.specs.Path.{PathTo}
 use Rattle.circuit.specs.Circuit.{circuitOf}
 use Rattle.circuit.specs.Clock.{flow}
-
--- refused, with document 01's number and record; or found, with the launching synchronizer and the number of arcs
-pub data Answer : Type 0 where
-  Refused : ℕ → ℕ → Answer
-  Found : ℕ → ℕ → Answer
+use Rattle.timing.specs.declared.ask.Way.{Way}
+use Rattle.timing.specs.declared.ask.Way.the-variants.{Refused, Found}
 
 -- the image is good, the buffer is long enough, and there is a synchronizer i
 pub record Asked (bytes : List ℕ) (i : ℕ) (arcs : List ℕ) : Type 0 where
@@ -27,7 +24,7 @@ pub record Asked (bytes : List ℕ) (i : ℕ) (arcs : List ℕ) : Type 0 where
   pub inside : i < circuitOf bytes .synchronizers
 
 -- arcs is the buffer as it was lent; the last argument is the buffer as the call leaves it
-pub data PathCall (bytes : List ℕ) (i : ℕ) (arcs : List ℕ) : Answer → List ℕ → Type 0 where
+pub data PathCall (bytes : List ℕ) (i : ℕ) (arcs : List ℕ) : Way → List ℕ → Type 0 where
   -- 1 to 9: as for the image, and nothing is written
   refused : {rule culprit : ℕ} → checkOf bytes ≡ check.Refused rule culprit → PathCall bytes i arcs (Refused rule culprit) arcs
   -- 11: the arc buffer has fewer than l numbers

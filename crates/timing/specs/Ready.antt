@@ -1,6 +1,6 @@
 -- What keeps the tables' walks within their bounds.
 use mathlib.Core.Path.{_≡_}
-use mathlib.Core.Bool.{Bool}
+use mathlib.Core.Bool.{Bool, cond}
 use mathlib.Core.List.{List}
 use Prim.Native.Nat.{ℕ, _≤_, _<_}
 use lib.ListN.{length, getD}
@@ -15,6 +15,12 @@ pub record Reachable (source departs : List ℕ) (m : ℕ) : Type 0 where
   pub inside : (a : ℕ) → a < m → getD source a 0 < 512
   pub low : (a : ℕ) → a < m → RAISE ≤ getD departs (getD source a 0) 0
   pub high : (a : ℕ) → a < m → getD departs (getD source a 0) 0 < 4611686018427387904
+
+-- and a is one of them
+pub record ReachableAt (source departs : List ℕ) (a : ℕ) : Type 0 where
+  pub arcs : ℕ
+  pub reachable : Reachable source departs arcs
+  pub here : a < arcs
 
 -- the tables of l nodes can be worked with for l rounds
 pub record Ready (s : Side) (n : Net) (l : ℕ) : Type 0 where
@@ -33,8 +39,9 @@ pub record WorksAt (n : Net) (D : ℕ → ℕ) (i : ℕ) : Type 0 where
   pub works : Works n D nodes
   pub here : i < nodes
 
--- a round was worked out: the table holds what D leads to, and the flag says whether a node moved
-pub record Rounded (s : Side) (n : Net) (l : ℕ) (D : ℕ → ℕ) (flag : Bool) (table : List ℕ) : Type 0 where
-  pub long : length table ≡ 512
+-- a round was worked out: the table holds what D leads to, the flag says whether a node moved, and those that did have its number
+pub record Rounded (s : Side) (n : Net) (l : ℕ) (D : ℕ → ℕ) (number : ℕ) (before : List ℕ) (flag : Bool) (table after : List ℕ) : Type 0 where
+  pub long : (length table ≡ 512) × (length after ≡ 512)
   pub made : (i : ℕ) → i < l → getD table i 0 ≡ departN s n D i
   pub moved : flag ≡ anyOf (moves s n D) l
+  pub noted : (i : ℕ) → i < l → getD after i 0 ≡ cond (moves s n D i) number (getD before i 0)

@@ -19,6 +19,21 @@ pub(crate) fn index(x: u16) -> usize
     x as usize
 }
 
+pub(crate) fn narrow(x: usize) -> u16
+    requires { ⌜ x < 65536 ⌝ }
+    ensures { λ r. ⌜ r ≡ x ⌝ }
+{
+    x as u16
+}
+
+// A number as an answer or a buffer has it.
+pub(crate) fn counted(x: usize) -> u32
+    requires { ⌜ x < 4294967296 ⌝ }
+    ensures { λ r. ⌜ r ≡ x ⌝ }
+{
+    x as u32
+}
+
 pub(crate) fn bring(
     source: &[u16; 2048],
     lead: &[u32; 2048],

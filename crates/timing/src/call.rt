@@ -29,7 +29,7 @@ pub enum Answer {
 }
 
 // Fills the tables from a good image.
-fn load(
+pub(crate) fn load(
     bytes: &[u8],
     image: Image,
     source: &mut [u16; 2048],

@@ -14,7 +14,9 @@ ghost use Rattle.flow.specs.Walk.{Shown};
 ghost use Rattle.timing.specs.Ready.{Reachable};
 ghost use Rattle.timing.specs.Ring.{Taken, Gave, Kept, AtRound, Rounded, Raised, nodeBack, arcBack, Repeats, Lowest, routeBack, written, leads, turned, Turned};
 use crate::arrive::bring;
+use crate::arrive::counted;
 use crate::arrive::index;
+use crate::arrive::narrow;
 use crate::arrive::wide;
 use crate::rounds::departure;
 use crate::signed::minus;
@@ -28,13 +30,6 @@ pub(crate) struct Ring {
 struct At {
     arc: u16,
     time: u64,
-}
-
-fn narrow(x: usize) -> u16
-    requires { ⌜ x < 65536 ⌝ }
-    ensures { λ r. ⌜ r ≡ x ⌝ }
-{
-    x as u16
 }
 
 // Of the arcs from `from` up to `to`, the first that brings the latest time, or 0 where there is no arc.
@@ -348,13 +343,6 @@ fn gained(
 {
     let sum = total(trail, lead, first, low) + total(trail, lead, low, second);
     minus(sum, cycles(second - first, cycle))
-}
-
-fn counted(x: usize) -> u32
-    requires { ⌜ x ≤ 512 ⌝ }
-    ensures { λ r. ⌜ r ≡ x ⌝ }
-{
-    x as u32
 }
 
 // Shows the first closed stretch of a walk back.

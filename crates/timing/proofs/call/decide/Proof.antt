@@ -35,7 +35,7 @@ find-requires c κs =
     let t = p .1 .1 in
     let k = counts (x .bytes .now) (x .image) (p .1 .0) in
     let s = c .before .before .before .before .settle in
-    (tamed (x .bytes .now) v (x .image) (p .1 .0) (x .source .now) (x .late .now) (x .early .now) (x .first .now) (x .launch .now) (x .latch .now) t late, (moving (x .bytes .now) v (x .image) (p .1 .0) (x .source .now) (x .late .now) (x .early .now) (x .first .now) (x .launch .now) (x .latch .now) t late (s .result .departs) (not-true _ (c .before .before .if1 .taken)) (s .ensures), omega (arith, k .synchronizers, p .0 .arcs-fit)))
+    (tamed (x .bytes .now) v (x .image) (p .1 .0) (x .source .now) (x .late .now) (x .early .now) (x .first .now) (x .launch .now) (x .latch .now) t late, (moving (x .bytes .now) v (x .image) (p .1 .0) (x .source .now) (x .late .now) (x .early .now) (x .first .now) (x .launch .now) (x .latch .now) t late (s .result .departs) (s .result .ranks) (not-true _ (c .before .before .if1 .taken)) (s .ensures), omega (arith, k .synchronizers, p .0 .arcs-fit)))
 
 same-length : tie.Need-same-length
 same-length c = search needs
@@ -57,7 +57,7 @@ tell-requires c κs =
     let t = p .1 .1 in
     let k = counts (x .bytes .now) (x .image) (p .1 .0) in
     let s = c .before .before .before .before .before .settle in
-    ((v, p .1 .0), (t, (known (x .bytes .now) v (x .image) (p .1 .0) (x .source .now) (x .late .now) (x .early .now) (x .first .now) (x .launch .now) (x .latch .now) t late (s .result .departs) (not-false _ (c .before .before .before .if1 .left)) (s .ensures), omega (arith, k .synchronizers, p .0 .numbers-fit))))
+    ((v, p .1 .0), (t, (known (x .bytes .now) v (x .image) (p .1 .0) (x .source .now) (x .late .now) (x .early .now) (x .first .now) (x .launch .now) (x .latch .now) t late (s .result .departs) (s .result .ranks) (not-false _ (c .before .before .before .if1 .left)) (s .ensures), omega (arith, k .synchronizers, p .0 .numbers-fit))))
 
 same-length-2 : tie.Need-same-length-2
 same-length-2 c = search needs
@@ -70,7 +70,7 @@ returns-2 c =
     let t = p .1 .1 in
     let s = c .before .before .before .before .before .before .before .settle in
     let w = c .before .tell .ensures in
-    let k = known (x .bytes .now) v (x .image) (p .1 .0) (x .source .now) (x .late .now) (x .early .now) (x .first .now) (x .launch .now) (x .latch .now) t late (s .result .departs) (not-false _ (c .before .before .before .before .before .if1 .left)) (s .ensures) in
+    let k = known (x .bytes .now) v (x .image) (p .1 .0) (x .source .now) (x .late .now) (x .early .now) (x .first .now) (x .launch .now) (x .latch .now) t late (s .result .departs) (s .result .ranks) (not-false _ (c .before .before .before .before .before .if1 .left)) (s .ensures) in
     rw (w .written .setups, w .written .holds, w .written .list)
     (timed (w .soonest) _ (p .0) (record { early = w .least; late = k .least }))
 

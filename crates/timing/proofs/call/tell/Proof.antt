@@ -18,7 +18,7 @@ write-results-requires : tie.Need-write-results-requires
 write-results-requires c κs =
     let x = c .before .before .before .before .before .before .args in
     let p = c .before .before .before .before .before .before .pre in
-    let e = known-early (x .bytes .now) (p .0 .0) (x .image) (p .0 .1) (x .source .now) (x .late .now) (x .early .now) (x .first .now) (x .launch .now) (x .latch .now) (p .1 .0) (x .later .now) _ (p .1 .1 .0) (c .before .before .before .settle .ensures) in
+    let e = known-early (x .bytes .now) (p .0 .0) (x .image) (p .0 .1) (x .source .now) (x .late .now) (x .early .now) (x .first .now) (x .launch .now) (x .latch .now) (p .1 .0) (x .later .now) (c .before .before .before .settle .result .departs) (c .before .before .before .settle .result .ranks) (p .1 .1 .0) (c .before .before .before .settle .ensures) in
     (write (x .bytes .now) (p .0 .0) (x .image) (p .0 .1) (x .source .now) (x .late .now) (x .early .now) (x .first .now) (x .launch .now) (x .latch .now) (p .1 .0) (x .later .now) _ (p .1 .1 .0) e, p .1 .1 .1)
 
 same-length : tie.Need-same-length
@@ -28,7 +28,7 @@ returns : tie.Need-returns
 returns c =
     let x = c .before .before .before .before .before .before .before .before .args in
     let p = c .before .before .before .before .before .before .before .before .pre in
-    let e = known-early (x .bytes .now) (p .0 .0) (x .image) (p .0 .1) (x .source .now) (x .late .now) (x .early .now) (x .first .now) (x .launch .now) (x .latch .now) (p .1 .0) (x .later .now) (c .before .before .before .before .before .settle .result .departs) (p .1 .1 .0) (c .before .before .before .before .before .settle .ensures) in
+    let e = known-early (x .bytes .now) (p .0 .0) (x .image) (p .0 .1) (x .source .now) (x .late .now) (x .early .now) (x .first .now) (x .launch .now) (x .latch .now) (p .1 .0) (x .later .now) (c .before .before .before .before .before .settle .result .departs) (c .before .before .before .before .before .settle .result .ranks) (p .1 .1 .0) (c .before .before .before .before .before .settle .ensures) in
     record { soonest = _; least = e .least; written = c .before .write-results .ensures }
 
 pub tell-spec : {M : Type 1} → statement M

@@ -1,5 +1,7 @@
 -- `depart` keeps the arc that gives the arrival, beside the departure.
+use mathlib.Core.Path.{refl}
 use native.Mathlib.Omega.{arith}
+use Rattle.tables.specs.Net.{arcsOf, netOf}
 use Rattle.timing.proofs.Reach.{reach}
 use borrow.Author.Needs.{needs}
 use Rattle.timing.proofs.ring.depart.Statement.{statement}
@@ -35,7 +37,7 @@ via-requires c κs =
     let f = c .before .before .index .ensures .0 in
     let t = c .index2 .ensures .0 in (
       omega (arith, f, t, s .rises (x .i) i),
-      reach (x .source .now) (x .lead .now) (x .first .now) (x .launch .now) (x .latch .now) (x .departs .now) (x .cycle) (x .l) (x .m) _ s (b .pre .1 .0)
+      reach (netOf (arcsOf (x .source .now) (x .lead .now) (x .cycle)) (x .first .now) (x .launch .now) (x .latch .now)) (x .source .now) (x .departs .now) (x .l) (x .m) _ (λ a. refl) s (b .pre .1 .0)
           (omega (arith, t, s .ends (x .i) i)),
     )
 

@@ -1,5 +1,5 @@
 -- `departure` goes by what the synchronizer is: a latch that an arc enters, one that none enters, or a flip-flop.
-use mathlib.Core.Path.{sym}
+use mathlib.Core.Path.{refl, sym}
 use native.Mathlib.Omega.{arith}
 use borrow.Author.Tests.{eq-eqb, ne-eqb}
 use Rattle.tables.specs.Net.{sideOf, timesOf, arcsOf, netOf}
@@ -45,8 +45,8 @@ arrival-requires c κs =
     let w = c .before .before .before .before .before .before .before .before .pre in
     let e = c .before .before .before .index2 .ensures .0 in (
       omega (arith, c .if2 .taken),
-      reach (x .source .now) (x .lead .now) (x .first .now) (x .launch .now) (x .latch .now) (x .departs .now) (x .cycle)
-          (w .nodes) (w .works .arcs) _ (w .works .shaped) (w .works .ranged) (omega (arith, e, w .works .shaped .ends (x .i) (w .here))),
+      reach (netOf (arcsOf (x .source .now) (x .lead .now) (x .cycle)) (x .first .now) (x .launch .now) (x .latch .now)) (x .source .now) (x .departs .now)
+          (w .nodes) (w .works .arcs) _ (λ a. refl) (w .works .shaped) (w .works .ranged) (omega (arith, e, w .works .shaped .ends (x .i) (w .here))),
     )
 
 greater-requires : tie.Need-greater-requires

@@ -1,10 +1,7 @@
--- `step` stores what `departure` gives and compares it with what was there.
+-- `step` stores what `departure` gives, compares it with what was there, and notes the round where it is another.
 use borrow.Author.Needs.{needs}
 use Rattle.timing.proofs.rounds.step.Statement.{statement}
 use Rattle.timing.proofs.rounds.step.Tie as tie
-use Rattle.timing.proofs.rounds.step.Reads as reads
-use Rattle.timing.proofs.rounds.step.Lts as lts
-use Rattle.timing.proofs.rounds.departure.Reads as departure-reads
 
 departure-requires : tie.Need-departure-requires
 departure-requires c κs = search needs
@@ -15,14 +12,19 @@ mul-next c = search needs
 element-write-next : tie.Need-element-write-next
 element-write-next c = search needs
 
-mul-result : tie.Need-mul-result
-mul-result c = search needs
+mul-moved : tie.Need-mul-moved
+mul-moved c = search needs
 
-element-copy-out-result : tie.Need-element-copy-out-result
-element-copy-out-result c = search needs
+element-copy-out-moved : tie.Need-element-copy-out-moved
+element-copy-out-moved c = search needs
+
+note-requires : tie.Need-note-requires
+note-requires c κs = search needs
 
 returns : tie.Need-returns
-returns c = (rw (← c .before .departure .ensures), rw (← c .before .departure .ensures))
+returns c =
+    let e = c .before .before .before .departure .ensures in
+    ((rw (← e), rw (← e)), c .note .ensures)
 
 pub step-spec : {M : Type 1} → statement M
 step-spec =
@@ -31,6 +33,7 @@ step-spec =
     departure-requires
     mul-next
     element-write-next
-    mul-result
-    element-copy-out-result
+    mul-moved
+    element-copy-out-moved
+    note-requires
     returns)

@@ -1,0 +1,101 @@
+-- The path question on loaded tables. The table of first arcs says whether an arc leads in; where the rounds do not settle a ring grows; where
+-- they do, their departures and ranks can be traced back, and the trail written is the path.
+use mathlib.Core.Path.{_≡_, sym, _∙_}
+use mathlib.Core.List.{List, [], _∷_, _++_}
+use mathlib.Core.Logic.{inl, inr, _≢_}
+use Prim.Native.Nat.{ℕ, suc, _+_, _<_}
+use native.Mathlib.Omega.{arith}
+use lib.ListN.{length, getD, length-append}
+use Rattle.image.specs.Valid.{Valid, imageIn}
+use Rattle.image.specs.declared.kind.Image.{Image}
+use Rattle.flow.specs.Flow.{late}
+use Rattle.flow.specs.Bounds.{Unentered}
+use Rattle.flow.specs.Walk.{GrowingRing}
+use Rattle.flow.specs.Rank.{Rank}
+use Rattle.flow.proofs.Rank.{lowest-unique, rank, rank-round}
+use Rattle.flow.proofs.Settles.{settles-or}
+use Rattle.circuit.specs.Circuit.{circuitOf}
+use Rattle.circuit.specs.Clock.{flow}
+use Rattle.circuit.proofs.Sound.{sound, good}
+use Rattle.tables.specs.Net.{timesOf, arcsOf}
+use Rattle.tables.specs.Held.{Unsettled}
+use Rattle.tables.specs.Trail.{Stepping}
+use Rattle.tables.proofs.Models.{lowered}
+use Rattle.tables.proofs.Trails.{trail-length, stepping, trail-path}
+use Rattle.tables.proofs.Worked as worked
+use Rattle.timing.specs.Loaded.{Loaded}
+use Rattle.timing.specs.Told.{Known}
+use Rattle.timing.specs.Traceable.{Traceable, PathWritten}
+use Rattle.timing.specs.Paths.{Asked, PathCall, found}
+use Rattle.timing.specs.declared.ask.Way.the-variants.{Found}
+use Rattle.timing.proofs.Read.{counts}
+use Rattle.timing.proofs.Tracing.{source-here, behind}
+use Rattle.timing.proofs.Work.{side, models, tamed, Reckoned}
+
+module _ (bytes : List ℕ) (v : Valid bytes) (image : Image) (same : image ≡ imageIn bytes)
+    (sources lates earlies first launches latches : List ℕ) (t : Loaded (circuitOf bytes) sources lates earlies first launches latches) where
+  module _ (i : ℕ) (here : i < circuitOf bytes .synchronizers) where
+    pub none-in : getD first i 0 ≡ getD first (i + 1) 0 → Unentered (flow late (circuitOf bytes)) i (circuitOf bytes .arcs)
+    none-in e a l k = let h = t .firsts .outside i a here l k in omega (arith, h .0, h .1)
+
+    pub some-in : getD first i 0 ≢ getD first (i + 1) 0 → getD first i 0 < getD first (i + 1) 0
+    some-in d = omega (arith, t .firsts .rises i here, d)
+
+    pub first-in : getD first i 0 < getD first (i + 1) 0 → (getD first i 0 < circuitOf bytes .arcs) × (circuitOf bytes .to (getD first i 0) ≡ i)
+    first-in l = (omega (arith, t .firsts .within i here), t .firsts .inside i (getD first i 0) here (omega arith) l)
+
+  pub ring-grows : Unsettled late (side late image sources lates earlies first launches latches) (image .synchronizers) →
+      GrowingRing (flow late (circuitOf bytes))
+  ring-grows un =
+      let n = counts bytes image same in
+      let c = circuitOf bytes in
+      let u = rw (n .synchronizers) at un in
+      elim (settles-or late (flow late c) (good late c (sound bytes v)) (u .last) (omega (arith, u .late))) [
+        | inl ring ↦ ring
+        | inr still ↦ absurd (worked.still-moves c (sound bytes v) late _ (models bytes v image same sources lates earlies first launches latches t late) u (still (u .node) (u .here)))
+      ]
+
+  module _ (D R : List ℕ) (known : Known late (circuitOf bytes) D) (reckoned : Reckoned late (circuitOf bytes) D R) where
+    ranks : (i : ℕ) → i < circuitOf bytes .synchronizers → Rank (flow late (circuitOf bytes)) (lowered (timesOf D)) i (timesOf R i)
+    ranks i l = rank-round (flow late (circuitOf bytes)) (good late (circuitOf bytes) (sound bytes v)) (lowered (timesOf D)) (known .least .fits)
+        (timesOf R i) i l .1 (reckoned i l)
+
+    steps : Stepping (arcsOf sources lates (image .cycle)) (timesOf first) (timesOf D) (timesOf R) (circuitOf bytes .synchronizers)
+    steps =
+        stepping (side late image sources lates earlies first launches latches) (flow late (circuitOf bytes))
+        (good late (circuitOf bytes) (sound bytes v)) (models bytes v image same sources lates earlies first launches latches t late)
+        (timesOf D) (timesOf R) (known .ranged) (known .least .fits) ranks
+
+    pub traceable : Traceable (arcsOf sources lates (image .cycle)) (timesOf first) (image .synchronizers) (timesOf D) (timesOf R)
+    traceable =
+        let n = counts bytes image same in
+        let c = circuitOf bytes in
+        let s = tamed bytes v image same sources lates earlies first launches latches t late .shaped in
+        record {
+          works = record {
+            arcs = image .arcs;
+            shaped = record { nodes = s .nodes; count = s .count; sources = s .sources; rises = s .rises; ends = s .ends; cycle = s .cycle };
+            ranged = rw (n .synchronizers) (known .ranged);
+          };
+          low = rw (n .synchronizers) (λ i l.
+              let r = rank (flow late c) (good late c (sound bytes v)) (lowered (timesOf D)) (known .least) i l in
+              omega (arith, r .1, lowest-unique _ (r .0) (timesOf R i) (r .2) (ranks i l)));
+          stepping = rw (n .synchronizers) steps;
+        }
+
+    pub path-found : (i s count : ℕ) (before after : List ℕ) → Asked bytes i before →
+        PathWritten (arcsOf sources lates (image .cycle)) (timesOf first) (timesOf D) (timesOf R) i s count before after →
+        PathCall bytes i before (Found s count) after
+    path-found i s count before after asked w =
+        let c = circuitOf bytes in
+        let g = arcsOf sources lates (image .cycle) in
+        let a = w .stepped .arc in
+        let q = w .traced .path in
+        let d = timesOf R (w .source) in
+        let low : d < length before = omega (arith, traceable .low (w .source) (rw (w .stepped .from) (source-here sources lates first D R (image .cycle) (image .synchronizers) traceable i (omega (arith, asked .inside, counts bytes image same .synchronizers)) a (w .stepped .via .below))), counts bytes image same .synchronizers, asked .arcs-fit) in
+        let h = trail-path (side late image sources lates earlies first launches latches) (flow late c) (good late c (sound bytes v))
+        (models bytes v image same sources lates earlies first launches latches t late) (timesOf D) (timesOf R) (known .ranged) (known .least .fits)
+        ranks i s a q (asked .inside) (w .stepped .via) (rw (w .stepped .from) at (w .traced .trail)) in
+        let e : suc d ≡ length (q ++ (a ∷ [])) = sym (length-append q (a ∷ []) ∙ omega (arith, trail-length g (timesOf first) (timesOf D) (timesOf R) d (w .source) s q (w .traced .trail))) in
+        rw (w .counted ∙ e, rw e at (behind a d q before (w .middle) after low (w .stepped .written) (w .traced .written)))
+        (found (lowered (timesOf D)) s (q ++ (a ∷ [])) asked (known .least) h)

@@ -1,0 +1,100 @@
+-- `seek`: no arc leads in, or the late rounds do not settle, or the path is traced.
+use native.Mathlib.Omega.{arith}
+use borrow.Author.Tests.{not-true, not-false}
+use lib.ListN.{getD}
+use Rattle.image.proofs.Validity.{accepts}
+use Rattle.flow.specs.Flow.{late}
+use Rattle.circuit.proofs.Sound.{sound}
+use Rattle.timing.specs.Paths.{unentered, growing}
+use Rattle.timing.proofs.Read.{counts}
+use Rattle.timing.proofs.Work.{ready, known, reckoned, moving}
+use Rattle.timing.proofs.Asking.{none-in, some-in, first-in, ring-grows, traceable, path-found}
+use borrow.Author.Needs.{needs}
+use Rattle.timing.proofs.ask.seek.Statement.{statement}
+use Rattle.timing.proofs.ask.seek.Tie as tie
+
+mul-if1 : tie.Need-mul-if1
+mul-if1 c = search needs
+
+element-copy-out-if1 : tie.Need-element-copy-out-if1
+element-copy-out-if1 c = omega (arith, sound (c .before .before .args .bytes .now) (accepts (c .before .before .args .bytes .now) .1 (c .before .before .pre .0 .good)) .synchronizers, c .before .before .pre .0 .inside)
+
+add-if1 : tie.Need-add-if1
+add-if1 c = search needs
+
+mul-if1-2 : tie.Need-mul-if1-2
+mul-if1-2 c = search needs
+
+element-copy-out-if1-2 : tie.Need-element-copy-out-if1-2
+element-copy-out-if1-2 c = omega (arith, sound (c .before .before .before .args .bytes .now) (accepts (c .before .before .before .args .bytes .now) .1 (c .before .before .before .pre .0 .good)) .synchronizers, c .before .before .before .pre .0 .inside)
+
+returns : tie.Need-returns
+returns c =
+    let x = c .before .before .before .before .before .args in
+    let p = c .before .before .before .before .before .pre in
+    let v = accepts (x .bytes .now) .1 (p .0 .good) in
+    unentered (p .0) (none-in (x .bytes .now) v (x .image) (p .1 .0) (x .source .now) (x .late .now) (x .early .now) (x .first .now) (x .launch .now) (x .latch .now) (p .1 .1) (x .i) (p .0 .inside) (c .if1 .taken))
+
+cast-l : tie.Need-cast-l
+cast-l c = search needs
+
+settle-requires : tie.Need-settle-requires
+settle-requires c κs =
+    let x = c .before .before .before .before .before .before .args in
+    let p = c .before .before .before .before .before .before .pre in
+    let v = accepts (x .bytes .now) .1 (p .0 .good) in
+    (ready (x .bytes .now) v (x .image) (p .1 .0) (x .source .now) (x .late .now) (x .early .now) (x .first .now) (x .launch .now) (x .latch .now) (p .1 .1) late, p .1 .1 .nodes .long .0)
+
+returns-2 : tie.Need-returns-2
+returns-2 c =
+    let x = c .before .before .before .before .before .before .before .before .before .args in
+    let p = c .before .before .before .before .before .before .before .before .before .pre in
+    let v = accepts (x .bytes .now) .1 (p .0 .good) in
+    let s = c .before .before .settle in
+    let e = some-in (x .bytes .now) v (x .image) (p .1 .0) (x .source .now) (x .late .now) (x .early .now) (x .first .now) (x .launch .now) (x .latch .now) (p .1 .1) (x .i) (p .0 .inside) (c .before .before .before .before .if1 .left) in
+    let a = first-in (x .bytes .now) v (x .image) (p .1 .0) (x .source .now) (x .late .now) (x .early .now) (x .first .now) (x .launch .now) (x .latch .now) (p .1 .1) (x .i) (p .0 .inside) e in
+    growing (getD (x .first .now) (x .i) 0) (p .0) (a .0) (a .1)
+    (ring-grows (x .bytes .now) v (x .image) (p .1 .0) (x .source .now) (x .late .now) (x .early .now) (x .first .now) (x .launch .now) (x .latch .now) (p .1 .1) (moving (x .bytes .now) v (x .image) (p .1 .0) (x .source .now) (x .late .now) (x .early .now) (x .first .now) (x .launch .now) (x .latch .now) (p .1 .1) late (s .result .departs) (s .result .ranks) (not-true _ (c .if2 .taken)) (s .ensures)))
+
+trace-requires : tie.Need-trace-requires
+trace-requires c κs =
+    let x = c .before .before .before .before .before .before .before .before .before .before .before .before .before .before .args in
+    let p = c .before .before .before .before .before .before .before .before .before .before .before .before .before .before .pre in
+    let v = accepts (x .bytes .now) .1 (p .0 .good) in
+    let s = c .before .before .before .before .before .before .before .settle in
+    let k = known (x .bytes .now) v (x .image) (p .1 .0) (x .source .now) (x .late .now) (x .early .now) (x .first .now) (x .launch .now) (x .latch .now) (p .1 .1) late (s .result .departs) (s .result .ranks) (not-false _ (c .before .before .before .before .before .if2 .left)) (s .ensures) in
+    let r = reckoned (x .bytes .now) v (x .image) (p .1 .0) (x .source .now) (x .late .now) (x .early .now) (x .first .now) (x .launch .now) (x .latch .now) (p .1 .1) late (s .result .departs) (s .result .ranks) (not-false _ (c .before .before .before .before .before .if2 .left)) (s .ensures) in
+    let n = counts (x .bytes .now) (x .image) (p .1 .0) in (
+      traceable (x .bytes .now) v (x .image) (p .1 .0) (x .source .now) (x .late .now) (x .early .now) (x .first .now) (x .launch .now) (x .latch .now) (p .1 .1) (s .result .departs) (s .result .ranks) k r,
+      ((rw (n .synchronizers) (p .0 .inside), omega (arith, n .synchronizers, p .0 .arcs-fit)), some-in (x .bytes .now) v (x .image) (p .1 .0) (x .source .now) (x .late .now) (x .early .now) (x .first .now) (x .launch .now) (x .latch .now) (p .1 .1) (x .i) (p .0 .inside) (c .before .before .before .before .before .before .before .before .before .if1 .left)),
+    )
+
+same-length : tie.Need-same-length
+same-length c = search needs
+
+returns-3 : tie.Need-returns-3
+returns-3 c =
+    let x = c .before .before .before .before .before .before .before .before .before .before .before .before .before .before .before .before .before .args in
+    let p = c .before .before .before .before .before .before .before .before .before .before .before .before .before .before .before .before .before .pre in
+    let v = accepts (x .bytes .now) .1 (p .0 .good) in
+    let s = c .before .before .before .before .before .before .before .before .before .before .settle in
+    let k = known (x .bytes .now) v (x .image) (p .1 .0) (x .source .now) (x .late .now) (x .early .now) (x .first .now) (x .launch .now) (x .latch .now) (p .1 .1) late (s .result .departs) (s .result .ranks) (not-false _ (c .before .before .before .before .before .before .before .before .if2 .left)) (s .ensures) in
+    let r = reckoned (x .bytes .now) v (x .image) (p .1 .0) (x .source .now) (x .late .now) (x .early .now) (x .first .now) (x .launch .now) (x .latch .now) (p .1 .1) late (s .result .departs) (s .result .ranks) (not-false _ (c .before .before .before .before .before .before .before .before .if2 .left)) (s .ensures) in
+    path-found (x .bytes .now) v (x .image) (p .1 .0) (x .source .now) (x .late .now) (x .early .now) (x .first .now) (x .launch .now) (x .latch .now) (p .1 .1) (s .result .departs) (s .result .ranks) k r (x .i) _ _ (x .arcs .now) _ (p .0) (c .before .before .trace .ensures)
+
+pub seek-spec : {M : Type 1} → statement M
+seek-spec =
+    tie.close
+    (tie.spec
+    mul-if1
+    element-copy-out-if1
+    add-if1
+    mul-if1-2
+    element-copy-out-if1-2
+    returns
+    cast-l
+    settle-requires
+    returns-2
+    trace-requires
+    same-length
+    returns-3)
