@@ -10,7 +10,7 @@ use lib.ListN.{length, getD, set, length-set}
 use lib.Seq.{getD-set-same, getD-set-other}
 use Rattle.flow.specs.Flow.{late}
 use Rattle.tables.specs.Net.{Arcs, Net, timesOf, netOf, brought, departN, roundN, Shaped, Ranged}
-use Rattle.tables.proofs.Climb.{arrival-agree, depart-agree}
+use Rattle.tables.proofs.Same.{arrival-same, depart-same}
 use Rattle.timing.specs.Ring.{Gave, Kept, AtRound, Rounded}
 
 module _ (n : Net) (D : ℕ → ℕ) (k : ℕ) (before : List ℕ) where
@@ -52,12 +52,12 @@ module _ (n : Net) (l m : ℕ) (s : Shaped n l m) where
       let t = g some in
       let e = same (n .arcs .source a) (s .sources a (omega (arith, t .below, s .ends i here))) in
       let b : brought (n .arcs) E a ≡ brought (n .arcs) D a = omega (arith, e) in
-      record { above = t .above; below = t .below; brings = b ∙ t .brings ∙ arrival-agree n l m s D E same i here }
+      record { above = t .above; below = t .below; brings = b ∙ t .brings ∙ arrival-same late n l m s D E same i here }
 
   module _ (k : ℕ) (departs before next after : List ℕ) (was : AtRound n l k departs) (h : Rounded n (timesOf departs) k before l next after) where
     pub round-more : AtRound n l (k + 1) next
     unfolding roundN
-    round-more i here = rw add-one (h .departs i here ∙ depart-agree n l m s (timesOf departs) (roundN late n k) was i here)
+    round-more i here = rw add-one (h .departs i here ∙ depart-same late n l m s (timesOf departs) (roundN late n k) was i here)
 
     pub kept-more : l ≤ 512 → Kept n l k before → Kept n l (k + 1) after
     kept-more few old = below-more (λ r. (i : ℕ) → i < l → Gave n (roundN late n r) i (getD after (r * 512 + i) 0)) k

@@ -7,12 +7,11 @@ use native.Mathlib.Omega.{arith}
 use native.Mathlib.Decide.{decLt}
 use lib.ListN.{getD}
 use Rattle.flow.specs.Flow.{late}
-use Rattle.tables.specs.Net.{Net, roundN, Shaped}
-use Rattle.tables.specs.Held.{Unsettled}
-use Rattle.tables.proofs.Climb.{round-rises}
+use Rattle.tables.specs.Net.{Net, roundN}
+use Rattle.tables.specs.Held.{Tame, Unsettled}
 use Rattle.timing.specs.Ring.{AtRound, Raised}
 
-module _ (n : Net) (l m : ℕ) (s : Shaped n l m) (k : ℕ) (e : l ≡ suc k) (before after : List ℕ)
+module _ (n : Net) (l m : ℕ) (tame : Tame late n l m) (k : ℕ) (e : l ≡ suc k) (before after : List ℕ)
     (was : AtRound n l k before) (is : AtRound n l l after) where
   changed-node : (un : Unsettled late n l) → getD before (un .node) 0 ≢ getD after (un .node) 0
   changed-node un q =
@@ -28,7 +27,7 @@ module _ (n : Net) (l m : ℕ) (s : Shaped n l m) (k : ℕ) (e : l ≡ suc k) (b
   ]
 
   pub differs-raised : (r : ℕ) → r < l → getD before r 0 ≢ getD after r 0 → Raised n l r
-  differs-raised r h ne = go l e (λ q. ne (was r h ∙ q ∙ sym (is r h))) (round-rises n l m s k r h)
+  differs-raised r h ne = go l e (λ q. ne (was r h ∙ q ∙ sym (is r h))) (tame .rises k (suc k) r (omega arith) (omega arith) h)
     where
       go : (j : ℕ) → j ≡ suc k → roundN late n k r ≢ roundN late n j r → roundN late n k r ≤ roundN late n (suc k) r → Raised n j r
       go zero q d x = tt

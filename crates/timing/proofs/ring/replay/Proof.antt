@@ -43,8 +43,8 @@ returns c =
     let is = rw one at (round-more n (x .l) (x .m) s k (r .result) _ (o .result) _ (r .ensures .0) (o .ensures)) in
     let all = rw one at (kept-more n (x .l) (x .m) s k (r .result) _ (o .result) _ (r .ensures .0) (o .ensures) (s .nodes) (r .ensures .1 .0)) in
     let d = c .changed .ensures in
-    let h = differs-here n (x .l) (x .m) s k e (r .result) (o .result) (r .ensures .0) is un (c .changed .result) (d .1 .0) (d .0) in
-    (h, (differs-raised n (x .l) (x .m) s k e (r .result) (o .result) (r .ensures .0) is (c .changed .result) h (d .1 .1 h), all))
+    let h = differs-here n (x .l) (x .m) (b .pre .0) k e (r .result) (o .result) (r .ensures .0) is un (c .changed .result) (d .1 .0) (d .0) in
+    (h, (differs-raised n (x .l) (x .m) (b .pre .0) k e (r .result) (o .result) (r .ensures .0) is (c .changed .result) h (d .1 .1 h), all))
 
 pub replay-spec : {M : Type 1} → statement M
 replay-spec = tie.close (tie.spec sub-last rounds-requires round-requires changed-requires returns)
