@@ -18,8 +18,6 @@ use Rattle.circuit.proofs.Sound.{sound}
 use Rattle.timing.specs.Promise as promise
 use Rattle.timing.specs.Promise.{Served}
 use Rattle.timing.specs.Paths as paths
-use Rattle.timing.specs.declared.ask.Way.{Way}
-use Rattle.timing.specs.declared.ask.Way.the-variants as way
 use Rattle.timing.proofs.Only.{timing-only}
 use Rattle.timing.proofs.OnePath.{path-only}
 use Rattle.known.specs.Circuits.{Outcome, timed, growing, path, Known, known}

@@ -1,14 +1,13 @@
 -- The path question on the tables is the flow's. Of the arcs into a node the nearest is the last arc of a path to it; where the node has a
 -- rank above 0, it is also the step back, for the arrival is then the departure.
-use mathlib.Core.Path.{_≡_, refl, sym, ap, _∙_}
-use mathlib.Core.Bool.{true}
+use mathlib.Core.Path.{_≡_, refl, sym, _∙_}
 use mathlib.Core.List.{List, [], _∷_, _++_}
 use Prim.Native.Nat.{ℕ, zero, suc, _+_, _<_, _≤_}
 use native.Mathlib.Omega.{arith}
 use lib.ListN.{length, length-append}
 use Rattle.ticks.specs.Raised.{lower}
 use Rattle.ticks.proofs.Order.{≤ℤ-antisym}
-use Rattle.ticks.proofs.Raised.{lower-le, le-lower, lower-injective}
+use Rattle.ticks.proofs.Raised.{lower-le, lower-injective}
 use Rattle.flow.specs.Flow.{Flow, Good, late, at, brings, arrival, Fits}
 use Rattle.flow.specs.Rank.{Lowest, Rank, Tight}
 use Rattle.flow.specs.Path.{Brought, Last, Back, PathTo}

@@ -1,6 +1,6 @@
 -- Stepping back keeps within the tables. A trail of no arc leaves the buffer as it is; an arc stored behind the trail to its source makes
 -- a trail that is one arc longer.
-use mathlib.Core.Path.{_≡_, refl, sym, ap, _∙_}
+use mathlib.Core.Path.{_≡_, refl, sym, _∙_}
 use mathlib.Core.List.{List, [], _∷_, _++_, append-assoc}
 use Prim.Native.Nat.{ℕ, suc, _+_, _<_, _≤_}
 use native.Mathlib.Omega.{arith}

@@ -4,8 +4,6 @@ use borrow.Author.Needs.{needs}
 use Rattle.image.proofs.Words.{byte-past}
 use Rattle.image.proofs.bytes.byte.Statement.{statement}
 use Rattle.image.proofs.bytes.byte.Tie as tie
-use Rattle.image.proofs.bytes.byte.Reads as reads
-use Rattle.image.proofs.bytes.byte.Lts as lts
 
 -- src/bytes.rt:8:27
 shared-slice-read-result : tie.Need-shared-slice-read-result

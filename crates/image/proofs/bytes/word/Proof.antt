@@ -5,10 +5,6 @@ use Rattle.image.specs.Words.{wordAt}
 use Rattle.image.proofs.Words.{word-past}
 use Rattle.image.proofs.bytes.word.Statement.{statement}
 use Rattle.image.proofs.bytes.word.Tie as tie
-use Rattle.image.proofs.bytes.word.Reads as reads
-use Rattle.image.proofs.bytes.word.Lts as lts
-use Rattle.image.proofs.bytes.byte.Reads as byte-reads
-use Rattle.image.proofs.bytes.from_little.Reads as from-little-reads
 
 -- src/bytes.rt:22:13
 shared-slice-read-from-little : tie.Need-shared-slice-read-from-little

@@ -4,14 +4,6 @@ use Rattle.image.specs.Checks.{checkOf}
 use borrow.Author.Needs.{needs}
 use Rattle.image.proofs.checks.check.Statement.{statement}
 use Rattle.image.proofs.checks.check.Tie as tie
-use Rattle.image.proofs.checks.check.Reads as reads
-use Rattle.image.proofs.checks.check.Lts as lts
-use Rattle.image.proofs.checks.check_records.Reads as check-records-reads
-use Rattle.image.proofs.kind.Header.read.Reads as read-reads
-use Rattle.image.proofs.kind.Image.of.Reads as of-reads
-use Rattle.image.proofs.rules.bad_counts.Reads as bad-counts-reads
-use Rattle.image.proofs.rules.bad_cycle.Reads as bad-cycle-reads
-use Rattle.image.proofs.rules.bad_layout.Reads as bad-layout-reads
 
 cast-if1 : tie.Need-cast-if1
 cast-if1 c = search needs

@@ -4,9 +4,6 @@ use Rattle.image.specs.Checks.{recordsOf}
 use borrow.Author.Needs.{needs}
 use Rattle.image.proofs.checks.check_records.Statement.{statement}
 use Rattle.image.proofs.checks.check_records.Tie as tie
-use Rattle.image.proofs.checks.check_records.Reads as reads
-use Rattle.image.proofs.checks.check_records.Lts as lts
-use Rattle.image.proofs.rules.lowest.Reads as lowest-reads
 
 lowest-requires : tie.Need-lowest-requires
 lowest-requires c κs = search needs

@@ -5,8 +5,6 @@ use native.Mathlib.Omega.{arith}
 use Rattle.image.proofs.Places.{product-room}
 use Rattle.image.proofs.records.place.Statement.{statement}
 use Rattle.image.proofs.records.place.Tie as tie
-use Rattle.image.proofs.records.place.Reads as reads
-use Rattle.image.proofs.records.place.Lts as lts
 
 room : (c : tie.Start) → c .args .size * c .args .i ≤ 18446744065119617025
 room c = product-room (c .args .size) (c .args .i) (omega arith) (omega arith)

@@ -2,9 +2,6 @@ use borrow.Author.Needs.{needs}
 use Rattle.image.specs.Rules.{badArc}
 use Rattle.image.proofs.rules.bad_arc.Statement.{statement}
 use Rattle.image.proofs.rules.bad_arc.Tie as tie
-use Rattle.image.proofs.rules.bad_arc.Reads as reads
-use Rattle.image.proofs.rules.bad_arc.Lts as lts
-use Rattle.image.proofs.records.Arc.read.Reads as read-reads
 
 -- src/rules.rt:90:9
 read-requires : tie.Need-read-requires

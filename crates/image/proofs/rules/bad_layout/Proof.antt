@@ -1,9 +1,6 @@
 use borrow.Author.Needs.{needs}
 use Rattle.image.proofs.rules.bad_layout.Statement.{statement}
 use Rattle.image.proofs.rules.bad_layout.Tie as tie
-use Rattle.image.proofs.rules.bad_layout.Reads as reads
-use Rattle.image.proofs.rules.bad_layout.Lts as lts
-use Rattle.image.proofs.kind.Image.offset.Reads as offset-reads
 
 -- src/rules.rt:47:7
 cast-result : tie.Need-cast-result

@@ -2,10 +2,6 @@ use borrow.Author.Needs.{needs}
 use Rattle.image.specs.Rules.{badOrder}
 use Rattle.image.proofs.rules.bad_order.Statement.{statement}
 use Rattle.image.proofs.rules.bad_order.Tie as tie
-use Rattle.image.proofs.rules.bad_order.Reads as reads
-use Rattle.image.proofs.rules.bad_order.Lts as lts
-use Rattle.image.proofs.records.Arc.read.Reads as read-reads
-use Rattle.image.proofs.rules.before.Reads as before-reads
 
 -- src/rules.rt:101:38
 before-requires : tie.Need-before-requires

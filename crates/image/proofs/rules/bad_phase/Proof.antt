@@ -2,10 +2,6 @@ use borrow.Author.Needs.{needs}
 use Rattle.image.specs.Rules.{badPhase}
 use Rattle.image.proofs.rules.bad_phase.Statement.{statement}
 use Rattle.image.proofs.rules.bad_phase.Tie as tie
-use Rattle.image.proofs.rules.bad_phase.Reads as reads
-use Rattle.image.proofs.rules.bad_phase.Lts as lts
-use Rattle.image.proofs.records.Phase.read.Reads as read-reads
-use Rattle.image.proofs.rules.before.Reads as before-reads
 
 -- src/rules.rt:65:9
 read-requires : tie.Need-read-requires

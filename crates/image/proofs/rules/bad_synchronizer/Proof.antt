@@ -2,9 +2,6 @@ use borrow.Author.Needs.{needs}
 use Rattle.image.specs.Rules.{badSynchronizer}
 use Rattle.image.proofs.rules.bad_synchronizer.Statement.{statement}
 use Rattle.image.proofs.rules.bad_synchronizer.Tie as tie
-use Rattle.image.proofs.rules.bad_synchronizer.Reads as reads
-use Rattle.image.proofs.rules.bad_synchronizer.Lts as lts
-use Rattle.image.proofs.records.Synchronizer.read.Reads as read-reads
 
 -- src/rules.rt:77:9
 read-requires : tie.Need-read-requires

@@ -2,12 +2,6 @@
 use borrow.Author.Needs.{needs}
 use Rattle.image.proofs.rules.breaks.Statement.{statement}
 use Rattle.image.proofs.rules.breaks.Tie as tie
-use Rattle.image.proofs.rules.breaks.Reads as reads
-use Rattle.image.proofs.rules.breaks.Lts as lts
-use Rattle.image.proofs.rules.bad_arc.Reads as bad-arc-reads
-use Rattle.image.proofs.rules.bad_order.Reads as bad-order-reads
-use Rattle.image.proofs.rules.bad_phase.Reads as bad-phase-reads
-use Rattle.image.proofs.rules.bad_synchronizer.Reads as bad-synchronizer-reads
 
 enum-told : tie.Need-enum-told
 enum-told c = search needs

@@ -9,9 +9,6 @@ use Rattle.image.specs.Rules.{breaksOf}
 use Rattle.image.proofs.Lowest.{lowest-eq}
 use Rattle.image.proofs.rules.lowest.Statement.{statement}
 use Rattle.image.proofs.rules.lowest.Tie as tie
-use Rattle.image.proofs.rules.lowest.Reads as reads
-use Rattle.image.proofs.rules.lowest.Lts as lts
-use Rattle.image.proofs.rules.breaks.Reads as breaks-reads
 
 abbrev Inv-loop : tie.InvT-loop
 Inv-loop bytes image rule count i₀ i = (i ≤ count) × ((j : ℕ) → j < i → breaksOf bytes image rule j ≡ false)

@@ -3,9 +3,6 @@ use borrow.Author.Needs.{needs}
 use Rattle.image.specs.Kind.{headerOf}
 use Rattle.image.proofs.kind.Header.read.Statement.{statement}
 use Rattle.image.proofs.kind.Header.read.Tie as tie
-use Rattle.image.proofs.kind.Header.read.Reads as reads
-use Rattle.image.proofs.kind.Header.read.Lts as lts
-use Rattle.image.proofs.bytes.word.Reads as word-reads
 
 -- src/kind.rt:91:22
 word-requires : tie.Need-word-requires

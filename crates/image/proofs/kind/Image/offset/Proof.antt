@@ -2,8 +2,6 @@
 use borrow.Author.Needs.{needs}
 use Rattle.image.proofs.kind.Image.offset.Statement.{statement}
 use Rattle.image.proofs.kind.Image.offset.Tie as tie
-use Rattle.image.proofs.kind.Image.offset.Reads as reads
-use Rattle.image.proofs.kind.Image.offset.Lts as lts
 
 -- src/kind.rt:74:21
 cast-first : tie.Need-cast-first

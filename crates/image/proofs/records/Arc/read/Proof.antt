@@ -3,10 +3,6 @@ use borrow.Author.Needs.{needs}
 use Rattle.image.specs.Records.{arcAt}
 use Rattle.image.proofs.records.Arc.read.Statement.{statement}
 use Rattle.image.proofs.records.Arc.read.Tie as tie
-use Rattle.image.proofs.records.Arc.read.Reads as reads
-use Rattle.image.proofs.records.Arc.read.Lts as lts
-use Rattle.image.proofs.bytes.word.Reads as word-reads
-use Rattle.image.proofs.records.place.Reads as place-reads
 
 -- src/records.rt:65:13
 place-requires : tie.Need-place-requires
