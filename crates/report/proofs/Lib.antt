@@ -1,0 +1,4 @@
+-- The laws that the report's proofs share.
+pub mod Digits
+pub mod Signs
+pub mod Writes

@@ -1,0 +1,64 @@
+-- One text after the other: stores side by side, and their lengths.
+use mathlib.Core.Path.{_≡_, refl, sym, ap, _∙_}
+use mathlib.Core.List.{List, [], _∷_, _++_, append-assoc}
+use Prim.Native.Nat.{ℕ, zero, suc, _+_, _-_, _≤_, _<_}
+use native.Mathlib.Omega.{arith}
+use lib.ListN.{length, drop, set, length-append}
+use lib.Seq.{sets, length-sets, sets-eq}
+use Rattle.report.specs.Text.{each}
+use Rattle.report.specs.Written.{Room, Wrote}
+
+sets-append : (xs ys l : List ℕ) (i : ℕ) → sets l i (xs ++ ys) ≡ sets (sets l i xs) (i + length xs) ys
+sets-append [] ys l i = let e : i + 0 ≡ i = omega arith in rw e
+sets-append (x ∷ xs) ys l i =
+    let e : i + suc (length xs) ≡ suc i + length xs = omega arith in
+    rw e (sets-append xs ys (set l i x) (suc i))
+
+pub wrote-none : (before : List ℕ) (at : ℕ) → Wrote [] before at before at
+wrote-none before at = record { stored = refl; ends = omega arith }
+
+pub wrote-long : {xs before after : List ℕ} {at next : ℕ} → Wrote xs before at after next → length after ≡ length before
+wrote-long {xs} {before} {after} {at} w = ap length (w .stored) ∙ length-sets before at xs
+
+pub wrote-then : {xs ys before between after : List ℕ} {at middle next : ℕ} →
+    Wrote xs before at between middle → Wrote ys between middle after next → Wrote (xs ++ ys) before at after next
+wrote-then {xs} {ys} {before} {at = at} v w = record {
+  stored = w .stored ∙ rw (v .stored, v .ends) (sym (sets-append xs ys before at));
+  ends = rw (length-append xs ys) (omega (arith, v .ends, w .ends));
+}
+
+-- where there is room for two texts, there is for the first, and then for the second
+pub room-first : (xs ys : List ℕ) {buffer : List ℕ} {at : ℕ} → Room (xs ++ ys) at buffer → Room xs at buffer
+room-first xs ys h = omega (arith, h .room, length-append xs ys)
+
+pub room-rest : (xs ys : List ℕ) {before after : List ℕ} {at next : ℕ} → Room (xs ++ ys) at before → Wrote xs before at after next → Room ys next after
+room-rest xs ys h w = omega (arith, h .room, length-append xs ys, w .ends, wrote-long w)
+
+-- written from the front on
+pub wrote-front : {xs before after : List ℕ} {next : ℕ} → length xs ≤ length before → Wrote xs before 0 after next → after ≡ xs ++ drop next before
+wrote-front {xs} {before} {after} {next} h w =
+    let e : next ≡ 0 + length xs = w .ends in
+    w .stored ∙ sets-eq xs before 0 (omega arith) ∙ rw e refl
+
+module _ (text : ℕ → List ℕ) where
+  -- d more texts take no less room
+  grows : (d i n : ℕ) → i + d ≡ n → length (each text i) ≤ length (each text n)
+  unfolding each
+  grows zero i n e = let k : i ≡ n = omega arith in rw k (omega arith)
+  grows (suc d) i zero e = let z : ⊥ = omega arith in absurd z
+  grows (suc d) i (suc n) e = rw (length-append (each text n) (text n)) (omega (arith, grows d i n (omega arith)))
+
+  each-long : (i : ℕ) → length (each text (suc i)) ≡ length (each text i) + length (text i)
+  unfolding each
+  each-long i = length-append (each text i) (text i)
+
+  -- where there is room for all n, there is for the one after the first i
+  pub each-room : {at next n : ℕ} {before after : List ℕ} (i : ℕ) → i < n → Room (each text n) at before →
+      Wrote (each text i) before at after next → Room (text i) next after
+  each-room {n = n} i l h w = omega (arith, h .room, grows (n - suc i) (suc i) n (omega arith), each-long i, w .ends, wrote-long w)
+
+  -- one text more
+  pub each-more : {i at middle next : ℕ} {before between after : List ℕ} →
+      Wrote (each text i) before at between middle → Wrote (text i) between middle after next → Wrote (each text (suc i)) before at after next
+  unfolding each
+  each-more v w = wrote-then v w

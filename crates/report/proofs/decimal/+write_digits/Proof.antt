@@ -1,0 +1,167 @@
+-- `write_digits` writes a number's tens by a call of itself, and then its ones. The measure is the number.
+use mathlib.Core.Path.{_∙_}
+use mathlib.Core.List.{[], _∷_}
+use native.Mathlib.Omega.{arith}
+use Rattle.report.specs.Decimal.{digit, digits}
+use Rattle.report.proofs.Digits.{digits-one, digits-more, digits-some}
+use Rattle.report.proofs.Writes.{wrote-then, wrote-long, room-first, room-rest}
+use Prim.Native.Nat.{ℕ, _/_, _%_, _<_}
+use borrow.Fn.Kinds.{In}
+use borrow.Fn.PlainCycle.{Measures, is, falls, and}
+use Rattle.report.proofs.decimal.write_digits.Reads as write-digits
+use Rattle.report.proofs.decimal.write_digits.Kinds as write-digits-kinds
+use Rattle.report.proofs.decimal.+write_digits.Lts-write_digits as write-digits-lts
+use Rattle.report.proofs.decimal.digit_of.Reads as digit-of-reads
+use Rattle.report.proofs.decimal.write_byte.Reads as write-byte-reads
+use Rattle.report.proofs.decimal.+write_digits.{statement}
+use Rattle.report.proofs.decimal.+write_digits.Tie.{close}
+
+abbrev μ-write-digits : Measures 1 write-digits-kinds.ps ℕ
+μ-write-digits κs a = a .0
+
+abbrev write-digits-at : ℕ → In 1 write-digits-kinds.ps
+write-digits-at t =
+    and 1 write-digits-kinds.ps (is 1 write-digits-kinds.ps μ-write-digits t) write-digits.Pre
+
+abbrev write-digits-below : ℕ → In 1 write-digits-kinds.ps
+write-digits-below t =
+    and
+    1
+    write-digits-kinds.ps
+    (falls 1 write-digits-kinds.ps _<_ μ-write-digits t)
+    write-digits.Pre
+
+-- src/decimal.rt:29:27
+write-digits-digit-of-requires : (t : ℕ) → write-digits-lts.Need-digit-of-requires (
+  digit-of-reads.Asked,
+  digit-of-reads.Learnt,
+  write-byte-reads.Asked,
+  write-byte-reads.Learnt,
+  write-digits-below t,
+  write-digits.Post,
+) (write-digits-at t) write-digits.Post
+write-digits-digit-of-requires t c κs = c .if1 .taken
+
+-- src/decimal.rt:29:9
+write-digits-write-byte-requires : (t : ℕ) → write-digits-lts.Need-write-byte-requires (
+  digit-of-reads.Asked,
+  digit-of-reads.Learnt,
+  write-byte-reads.Asked,
+  write-byte-reads.Learnt,
+  write-digits-below t,
+  write-digits.Post,
+) (write-digits-at t) write-digits.Post
+write-digits-write-byte-requires t c κs = let x = c .before .before .before .before in omega (arith, x .pre .1 .room, digits-some (x .args .n))
+
+-- src/decimal.rt:29:9
+write-digits-same-length : (t : ℕ) → write-digits-lts.Need-same-length (
+  digit-of-reads.Asked,
+  digit-of-reads.Learnt,
+  write-byte-reads.Asked,
+  write-byte-reads.Learnt,
+  write-digits-below t,
+  write-digits.Post,
+) (write-digits-at t) write-digits.Post
+write-digits-same-length t c = c .before .before .write-byte .kept .1 .1 .0
+
+-- src/decimal.rt:29:9
+write-digits-returns : (t : ℕ) → write-digits-lts.Need-returns (
+  digit-of-reads.Asked,
+  digit-of-reads.Learnt,
+  write-byte-reads.Asked,
+  write-byte-reads.Learnt,
+  write-digits-below t,
+  write-digits.Post,
+) (write-digits-at t) write-digits.Post
+write-digits-returns t c =
+    let x = c .before .before .before .before .before .before .before in
+    rw (digits-one (x .args .n) (c .before .before .before .before .before .if1 .taken), ← c .before .before .before .before .digit-of .ensures)
+    (c .before .before .write-byte .ensures)
+
+-- src/decimal.rt:31:9
+write-digits-write-digits-requires : (t : ℕ) → write-digits-lts.Need-write-digits-requires (
+  digit-of-reads.Asked,
+  digit-of-reads.Learnt,
+  write-byte-reads.Asked,
+  write-byte-reads.Learnt,
+  write-digits-below t,
+  write-digits.Post,
+) (write-digits-at t) write-digits.Post
+write-digits-write-digits-requires t c κs =
+    let x = c .before .before .before in
+    let many = c .before .if1 .left in
+    let e = digits-more (x .args .n) many in
+    let room = rw e at (x .pre .1) in
+    (omega (arith, x .pre .0), room-first (digits (x .args .n / 10)) (digit (x .args .n % 10) ∷ []) room)
+
+-- src/decimal.rt:32:16
+write-digits-digit-of-requires-2 : (t : ℕ) → write-digits-lts.Need-digit-of-requires-2 (
+  digit-of-reads.Asked,
+  digit-of-reads.Learnt,
+  write-byte-reads.Asked,
+  write-byte-reads.Learnt,
+  write-digits-below t,
+  write-digits.Post,
+) (write-digits-at t) write-digits.Post
+write-digits-digit-of-requires-2 t c κs = omega arith
+
+-- src/decimal.rt:32:5
+write-digits-write-byte-requires-2 : (t : ℕ) → write-digits-lts.Need-write-byte-requires-2 (
+  digit-of-reads.Asked,
+  digit-of-reads.Learnt,
+  write-byte-reads.Asked,
+  write-byte-reads.Learnt,
+  write-digits-below t,
+  write-digits.Post,
+) (write-digits-at t) write-digits.Post
+write-digits-write-byte-requires-2 t c κs =
+    let x = c .before .before .before .before .before .before .before .before in
+    let e = digits-more (x .args .n) (c .before .before .before .before .before .before .if1 .left) in
+    let room = rw e at (x .pre .1) in
+    rw (c .before .digit-of2 .ensures) (room-rest (digits (x .args .n / 10)) (digit (x .args .n % 10) ∷ []) room (c .before .before .before .before .write-digits .ensures))
+
+-- src/decimal.rt:24:1
+write-digits-same-length-2 : (t : ℕ) → write-digits-lts.Need-same-length-2 (
+  digit-of-reads.Asked,
+  digit-of-reads.Learnt,
+  write-byte-reads.Asked,
+  write-byte-reads.Learnt,
+  write-digits-below t,
+  write-digits.Post,
+) (write-digits-at t) write-digits.Post
+write-digits-same-length-2 t c = wrote-long (c .before .before .write-byte2 .ensures) ∙ wrote-long (c .before .before .before .before .before .before .before .write-digits .ensures)
+
+-- src/decimal.rt:24:1
+write-digits-returns-2 : (t : ℕ) → write-digits-lts.Need-returns-2 (
+  digit-of-reads.Asked,
+  digit-of-reads.Learnt,
+  write-byte-reads.Asked,
+  write-byte-reads.Learnt,
+  write-digits-below t,
+  write-digits.Post,
+) (write-digits-at t) write-digits.Post
+write-digits-returns-2 t c =
+    let x = c .before .before .before .before .before .before .before .before .before .before .before in
+    rw (digits-more (x .args .n) (c .before .before .before .before .before .before .before .before .before .if1 .left), ← c .before .before .before .before .digit-of2 .ensures)
+    (wrote-then (c .before .before .before .before .before .before .before .write-digits .ensures) (c .before .before .write-byte2 .ensures))
+
+pub +write-digits-spec : {M : Type 1} → statement M
++write-digits-spec = close μ-write-digits λ t. write-digits-lts.spec (
+  digit-of-reads.Asked,
+  digit-of-reads.Learnt,
+  write-byte-reads.Asked,
+  write-byte-reads.Learnt,
+  write-digits-below t,
+  write-digits.Post,
+)
+    (write-digits-at t)
+    write-digits.Post
+    (write-digits-digit-of-requires t)
+    (write-digits-write-byte-requires t)
+    (write-digits-same-length t)
+    (write-digits-returns t)
+    (write-digits-write-digits-requires t)
+    (write-digits-digit-of-requires-2 t)
+    (write-digits-write-byte-requires-2 t)
+    (write-digits-same-length-2 t)
+    (write-digits-returns-2 t)

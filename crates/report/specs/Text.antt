@@ -1,0 +1,52 @@
+-- The text of a report, as document 01 prints it.
+use mathlib.Core.List.{List, [], _∷_, _++_, map}
+use Prim.Native.Nat.{ℕ, zero, suc, _*_}
+use lib.IntN.{ℤ}
+use lib.ListN.{take, drop, getD}
+use Rattle.report.specs.Decimal.{digits, signed, result}
+use Rattle.timing.specs.declared.call.Answer.{Answer}
+use Rattle.timing.specs.declared.call.Answer.the-variants.{Refused, Growing, Timed}
+
+abbrev pub space : ℕ
+space = 32
+
+abbrev pub feed : ℕ
+feed = 10
+
+-- the words that a report begins with
+abbrev pub «refused» : List ℕ
+«refused» = 114 ∷ 101 ∷ 102 ∷ 117 ∷ 115 ∷ 101 ∷ 100 ∷ []
+
+abbrev pub «loop» : List ℕ
+«loop» = 108 ∷ 111 ∷ 111 ∷ 112 ∷ []
+
+abbrev pub «timed» : List ℕ
+«timed» = 116 ∷ 105 ∷ 109 ∷ 101 ∷ 100 ∷ []
+
+-- fields with one space before each
+abbrev pub spaced : List (List ℕ) → List ℕ
+spaced [] = []
+spaced (field ∷ fields) = space ∷ (field ++ spaced fields)
+
+-- a line: its first field, the others, a line feed
+abbrev pub line : List ℕ → List (List ℕ) → List ℕ
+line first fields = first ++ (spaced fields ++ (feed ∷ []))
+
+-- the texts of 0 to n - 1, one after the other
+unfoldable pub each : (ℕ → List ℕ) → ℕ → List ℕ
+each text zero = []
+each text (suc n) = each text n ++ text n
+
+-- the line of one arc of the buffer
+abbrev pub arcLine : List ℕ → ℕ → List ℕ
+arcLine arcs i = line (digits (getD arcs i 0)) []
+
+-- the line of a synchronizer: its number and its six results
+abbrev pub row : List ℤ → ℕ → List ℕ
+row numbers i = line (digits i) (map result (take 6 (drop (6 * i) numbers)))
+
+-- the report of timing's answer about a circuit of l synchronizers, with the two buffers as timing left them
+unfoldable pub textOf : ℕ → Answer → List ℤ → List ℕ → List ℕ
+textOf l (Refused rule culprit) numbers arcs = line «refused» (digits rule ∷ digits culprit ∷ [])
+textOf l (Growing count gain) numbers arcs = line «loop» (digits count ∷ signed gain ∷ []) ++ each (arcLine arcs) count
+textOf l (Timed setups holds) numbers arcs = line «timed» (digits l ∷ digits setups ∷ digits holds ∷ []) ++ each (row numbers) l

@@ -1,0 +1,2 @@
+// Report: timing's answer as text.
+mod decimal;
