@@ -2,3 +2,5 @@
 pub mod Digits
 pub mod Signs
 pub mod Writes
+pub mod Rows
+pub mod Heads

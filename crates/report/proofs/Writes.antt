@@ -1,10 +1,10 @@
 -- One text after the other: stores side by side, and their lengths.
-use mathlib.Core.Path.{_≡_, refl, sym, ap, _∙_}
+use mathlib.Core.Path.{_≡_, refl, sym, ap, subst, _∙_}
 use mathlib.Core.List.{List, [], _∷_, _++_, append-assoc}
 use Prim.Native.Nat.{ℕ, zero, suc, _+_, _-_, _≤_, _<_}
 use native.Mathlib.Omega.{arith}
-use lib.ListN.{length, drop, set, length-append}
-use lib.Seq.{sets, length-sets, sets-eq}
+use lib.ListN.{length, take, drop, getD, set, length-append}
+use lib.Seq.{sets, length-sets, sets-eq, take-suc, take-length}
 use Rattle.report.specs.Text.{each}
 use Rattle.report.specs.Written.{Room, Wrote}
 
@@ -62,3 +62,20 @@ module _ (text : ℕ → List ℕ) where
       Wrote (each text i) before at between middle → Wrote (text i) between middle after next → Wrote (each text (suc i)) before at after next
   unfolding each
   each-more v w = wrote-then v w
+
+  -- none yet, and all
+  pub each-none : (before : List ℕ) (at : ℕ) → Wrote (each text 0) before at before at
+  unfolding each
+  each-none before at = wrote-none before at
+
+  pub each-all : {i n at next : ℕ} {before after : List ℕ} → i ≡ n → Wrote (each text i) before at after next → Wrote (each text n) before at after next
+  each-all {at = at} {next} {before} {after} e w = subst (λ (k : ℕ). Wrote (each text k) before at after next) e w
+
+-- the bytes of a list one by one
+each-bytes : (xs : List ℕ) (n : ℕ) → n ≤ length xs → each (λ j. getD xs j 0 ∷ []) n ≡ take n xs
+unfolding each
+each-bytes xs zero l = refl
+each-bytes xs (suc n) l = rw (each-bytes xs n (omega arith)) (sym (take-suc xs n 0 (omega arith)))
+
+pub bytes-are : (xs : List ℕ) → each (λ j. getD xs j 0 ∷ []) (length xs) ≡ xs
+bytes-are xs = each-bytes xs (length xs) (omega arith) ∙ take-length xs

@@ -1,0 +1,68 @@
+-- `write_word`: at byte i those before it are written.
+use mathlib.Core.Path.{_≡_}
+use mathlib.Core.List.{[], _∷_}
+use Prim.Native.Nat.{_-_, _≤_}
+use native.Mathlib.Numerals.{add-one}
+use native.Mathlib.Omega.{arith}
+use lib.ListN.{length, getD}
+use Rattle.report.specs.Text.{each}
+use Rattle.report.specs.Written.{Wrote}
+use Rattle.report.proofs.Writes.{wrote-long, each-none, each-room, each-more, each-all, bytes-are}
+use Rattle.report.proofs.lines.write_word.Statement.{statement}
+use Rattle.report.proofs.lines.write_word.Tie as tie
+
+abbrev Inv-loop : tie.InvT-loop
+Inv-loop word at text₀ next₀ i₀ text next i = (i ≤ length word) × Wrote (each (λ j. getD word j 0 ∷ []) i) text₀ at text next
+
+abbrev μ-loop : tie.MeasureT-loop
+μ-loop word at text₀ next₀ i₀ text next i = length word - i
+
+loop-holds : tie.Need-loop-holds Inv-loop μ-loop
+loop-holds c = (omega arith, each-none _ _ _)
+
+shared-slice-read-write-byte : tie.Need-shared-slice-read-write-byte Inv-loop μ-loop
+shared-slice-read-write-byte c = omega arith
+
+write-byte-requires : tie.Need-write-byte-requires Inv-loop μ-loop
+write-byte-requires c κs =
+    let x = c .before .before .before .before .before .before in
+    let word = x .args .word .now in
+    each-room (λ j. getD word j 0 ∷ []) (c .before .before .before .loop .i) (c .before .before .loop-test .taken) (rw (bytes-are word) (x .pre)) (c .before .before .before .loop .inv .1)
+
+add-i : tie.Need-add-i Inv-loop μ-loop
+add-i c = omega (arith, c .before .before .before .before .before .loop-test .taken)
+
+loop-less : tie.Need-loop-less Inv-loop μ-loop
+loop-less c = omega (arith, c .before .before .before .before .before .loop-test .taken)
+
+loop-again : tie.Need-loop-again Inv-loop μ-loop
+loop-again c =
+    let x = c .before .before .before .before .before .before .before .before .before in
+    let at = c .before .before .before .before .before .before .loop in
+    (omega (arith, c .before .before .before .before .before .loop-test .taken), rw (add-one (at .i)) (each-more (λ j. getD (x .args .word .now) j 0 ∷ []) (at .inv .1) (c .before .before .write-byte .ensures)))
+
+same-length : tie.Need-same-length Inv-loop μ-loop
+same-length c = wrote-long (c .before .loop .inv .1)
+
+returns : tie.Need-returns Inv-loop μ-loop
+returns c =
+    let x = c .before .before .before .before in
+    let word = x .args .word .now in
+    let at = c .before .loop in
+    let e : at .i ≡ length word = omega (arith, c .loop-test .left, at .inv .0) in
+    rw (bytes-are word) at (each-all (λ j. getD word j 0 ∷ []) e (at .inv .1))
+
+pub write-word-spec : {M : Type 1} → statement M
+write-word-spec =
+    tie.close
+    (tie.spec
+    Inv-loop
+    μ-loop
+    loop-holds
+    shared-slice-read-write-byte
+    write-byte-requires
+    add-i
+    loop-less
+    loop-again
+    same-length
+    returns)
