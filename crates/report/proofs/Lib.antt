@@ -4,3 +4,8 @@ pub mod Signs
 pub mod Writes
 pub mod Rows
 pub mod Heads
+pub mod Lengths
+pub mod Refusals
+pub mod Rings
+pub mod Fits
+pub mod Telling

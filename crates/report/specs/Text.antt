@@ -14,14 +14,14 @@ abbrev pub feed : ℕ
 feed = 10
 
 -- the words that a report begins with
-abbrev pub «refused» : List ℕ
-«refused» = 114 ∷ 101 ∷ 102 ∷ 117 ∷ 115 ∷ 101 ∷ 100 ∷ []
+abbrev pub wordRefused : List ℕ
+wordRefused = 114 ∷ 101 ∷ 102 ∷ 117 ∷ 115 ∷ 101 ∷ 100 ∷ []
 
-abbrev pub «loop» : List ℕ
-«loop» = 108 ∷ 111 ∷ 111 ∷ 112 ∷ []
+abbrev pub wordLoop : List ℕ
+wordLoop = 108 ∷ 111 ∷ 111 ∷ 112 ∷ []
 
-abbrev pub «timed» : List ℕ
-«timed» = 116 ∷ 105 ∷ 109 ∷ 101 ∷ 100 ∷ []
+abbrev pub wordTimed : List ℕ
+wordTimed = 116 ∷ 105 ∷ 109 ∷ 101 ∷ 100 ∷ []
 
 -- fields with one space before each
 abbrev pub spaced : List (List ℕ) → List ℕ
@@ -47,6 +47,6 @@ row numbers i = line (digits i) (map result (take 6 (drop (6 * i) numbers)))
 
 -- the report of timing's answer about a circuit of l synchronizers, with the two buffers as timing left them
 unfoldable pub textOf : ℕ → Answer → List ℤ → List ℕ → List ℕ
-textOf l (Refused rule culprit) numbers arcs = line «refused» (digits rule ∷ digits culprit ∷ [])
-textOf l (Growing count gain) numbers arcs = line «loop» (digits count ∷ signed gain ∷ []) ++ each (arcLine arcs) count
-textOf l (Timed setups holds) numbers arcs = line «timed» (digits l ∷ digits setups ∷ digits holds ∷ []) ++ each (row numbers) l
+textOf l (Refused rule culprit) numbers arcs = line wordRefused (digits rule ∷ digits culprit ∷ [])
+textOf l (Growing count gain) numbers arcs = line wordLoop (digits count ∷ signed gain ∷ []) ++ each (arcLine arcs) count
+textOf l (Timed setups holds) numbers arcs = line wordTimed (digits l ∷ digits setups ∷ digits holds ∷ []) ++ each (row numbers) l

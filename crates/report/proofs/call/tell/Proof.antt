@@ -1,85 +1,89 @@
+-- `tell` has timing work, and tells its answer by the function that is for it.
+use Rattle.report.proofs.Signs.{word-is}
+use Rattle.report.proofs.Telling.{arcs-hold, numbers-hold, synchronizers-are, room-for, reported, refused-told, growing-told, timed-told}
 use borrow.Author.Needs.{needs}
 use Rattle.report.proofs.call.tell.Statement.{statement}
 use Rattle.report.proofs.call.tell.Tie as tie
-use Rattle.report.proofs.call.tell.Reads as reads
-use Rattle.report.proofs.call.tell.Lts as lts
-use Rattle.image.proofs.word.Reads as word-reads
-use Rattle.report.proofs.call.tell_loop.Reads as tell-loop-reads
-use Rattle.report.proofs.call.tell_refused.Reads as tell-refused-reads
-use Rattle.report.proofs.call.tell_timed.Reads as tell-timed-reads
-use Rattle.timing.proofs.timing.Reads as timing-reads
 
--- src/call.rt:67:25
 slice-aggregate-timing : tie.Need-slice-aggregate-timing
 slice-aggregate-timing c = search needs
 
--- src/call.rt:67:39
 slice-aggregate-timing-2 : tie.Need-slice-aggregate-timing-2
 slice-aggregate-timing-2 c = search needs
 
--- src/call.rt:67:11
 timing-requires : tie.Need-timing-requires
 timing-requires c κs = search needs
 
--- src/call.rt:68:25
 enum-known-rule : tie.Need-enum-known-rule
 enum-known-rule c = search needs
 
--- src/call.rt:68:43
 tell-refused-requires : tie.Need-tell-refused-requires
-tell-refused-requires c κs = ?
+tell-refused-requires c κs =
+    let x = c .before .before .before .before .before .before .before .before .before .before .before in
+    let t = c .before .before .before .before .before .before .timing .ensures in
+    room-for (x .args .bytes .now) t _ (x .args .text .now) (x .pre) (refused-told (x .args .bytes .now) t (c .before .before .rule .given .1))
 
--- src/call.rt:69:25
 enum-known-count : tie.Need-enum-known-count
 enum-known-count c = search needs
 
--- src/call.rt:69:64
 slice-aggregate-tell-loop : tie.Need-slice-aggregate-tell-loop
 slice-aggregate-tell-loop c = search needs
 
--- src/call.rt:69:41
 tell-loop-requires : tie.Need-tell-loop-requires
-tell-loop-requires c κs = ?
+tell-loop-requires c κs =
+    let x = c .before .before .before .before .before .before .before .before .before .before .before .before in
+    let t = c .before .before .before .before .before .before .before .timing .ensures in
+    let e = c .before .before .before .count .given .1 in
+    let gain = word-is (c .before .before .before .count .given .0 .1 .0) (record { sfits = c .before .before .known-told2 .given .1 .0 .1 }) in
+    (arcs-hold (x .args .bytes .now) (rw e at t), rw gain (room-for (x .args .bytes .now) t _ (x .args .text .now) (x .pre) (growing-told (x .args .bytes .now) t e)))
 
--- src/call.rt:70:23
 enum-known-setups : tie.Need-enum-known-setups
 enum-known-setups c = search needs
 
--- src/call.rt:71:24
 word-requires : tie.Need-word-requires
 word-requires c κs = search needs
 
--- src/call.rt:71:56
 slice-aggregate-tell-timed : tie.Need-slice-aggregate-tell-timed
 slice-aggregate-tell-timed c = search needs
 
--- src/call.rt:71:13
 tell-timed-requires : tie.Need-tell-timed-requires
-tell-timed-requires c κs = ?
+tell-timed-requires c κs =
+    let x = c .before .before .before .before .before .before .before .before .before .before .before .before .before in
+    let t = c .before .before .before .before .before .before .before .before .timing .ensures in
+    let e = c .before .before .before .before .setups .given .1 in
+    let l = c .before .before .word .ensures in
+    (
+      rw (l, synchronizers-are (x .args .bytes .now)) (numbers-hold (x .args .bytes .now) (rw e at t)),
+      room-for (x .args .bytes .now) t _ (x .args .text .now) (x .pre) (timed-told (x .args .bytes .now) t l e),
+    )
 
--- src/call.rt:61:1
 same-length : tie.Need-same-length
 same-length c = search needs
 
--- src/call.rt:61:1
 returns : tie.Need-returns
-returns c = ?
+returns c =
+    let x = c .before .before .before .before .before .before .before .before .before .before .before .before .before .before in
+    let t = c .before .before .before .before .before .before .before .before .before .timing .ensures in
+    reported (x .args .bytes .now) t (x .pre) (refused-told (x .args .bytes .now) t (c .before .before .before .before .before .rule .given .1)) (c .before .before .tell-refused .ensures)
 
--- src/call.rt:61:1
 same-length-2 : tie.Need-same-length-2
 same-length-2 c = search needs
 
--- src/call.rt:61:1
 returns-2 : tie.Need-returns-2
-returns-2 c = ?
+returns-2 c =
+    let x = c .before .before .before .before .before .before .before .before .before .before .before .before .before .before .before in
+    let t = c .before .before .before .before .before .before .before .before .before .before .timing .ensures in
+    let gain = word-is (c .before .before .before .before .before .before .count .given .0 .1 .0) (record { sfits = c .before .before .before .before .before .known-told2 .given .1 .0 .1 }) in
+    reported (x .args .bytes .now) t (x .pre) (growing-told (x .args .bytes .now) t (c .before .before .before .before .before .before .count .given .1)) (rw gain at (c .before .before .tell-loop .ensures))
 
--- src/call.rt:61:1
 same-length-3 : tie.Need-same-length-3
 same-length-3 c = search needs
 
--- src/call.rt:61:1
 returns-3 : tie.Need-returns-3
-returns-3 c = ?
+returns-3 c =
+    let x = c .before .before .before .before .before .before .before .before .before .before .before .before .before .before .before .before in
+    let t = c .before .before .before .before .before .before .before .before .before .before .before .timing .ensures in
+    reported (x .args .bytes .now) t (x .pre) (timed-told (x .args .bytes .now) t (c .before .before .before .before .before .word .ensures) (c .before .before .before .before .before .before .before .setups .given .1)) (c .before .before .tell-timed .ensures)
 
 pub tell-spec : {M : Type 1} → statement M
 tell-spec =

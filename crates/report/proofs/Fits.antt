@@ -1,0 +1,61 @@
+-- Every report fits into its buffer. A refusal has two small numbers; a growing loop shows at most 512 arcs; of a timed circuit no
+-- number but the mark is 2^41 or more in size, so its line has at most 94 bytes.
+use mathlib.Core.List.{List, _∷_, [], _++_}
+use Prim.Native.Nat.{ℕ, _+_, _*_, _≤_, _<_}
+use native.Mathlib.Omega.{arith}
+use lib.IntN.{ℤ, pos}
+use lib.ListN.{length, drop, replicate, length-append, length-drop, length-replicate}
+use Rattle.image.specs.Checks.{checkOf}
+use Rattle.image.specs.Valid.{imageIn}
+use Rattle.image.proofs.Validity.{accepts}
+use Rattle.flow.specs.Flow.{late, early}
+use Rattle.circuit.specs.Circuit.{circuitOf}
+use Rattle.circuit.specs.Times.{missed, setupSlack, holdSlack, arrives, missedSetups, missedHolds, results}
+use Rattle.circuit.proofs.Sound.{Sound, sound}
+use Rattle.circuit.proofs.Sizes.{AllSmall, results-small}
+use Rattle.timing.specs.Promise.{Timing, refused, few-numbers, few-arcs, growing, timed, Served}
+use Rattle.timing.specs.declared.call.Answer.{Answer}
+use Rattle.timing.proofs.Writing as writing
+use Rattle.report.specs.Decimal.{digits, signed}
+use Rattle.report.specs.Text.{wordRefused, wordLoop, wordTimed, line, each, arcLine, row, textOf}
+use Rattle.report.specs.Promise.{zeros, noArcs, reportOf, Report}
+use Rattle.report.proofs.Lengths.{small-append, small-drop, small-zeros, row-few, arc-few, each-few, refused-few, loop-few, timed-few}
+use Rattle.report.proofs.Refusals.{refused-small}
+use Rattle.report.proofs.Rings.{count-few, gain-few, arcs-few}
+
+module _ (bytes : List ℕ) where
+  pub served-sound : {numbers : List ℤ} {arcs : List ℕ} → Served bytes numbers arcs → Sound (circuitOf bytes)
+  served-sound s = sound bytes (accepts bytes .1 (s .good))
+
+  pub text-fits : {X : Answer} {R : List ℤ} {A : List ℕ} → Timing bytes zeros noArcs X R A → length (reportOf bytes X R A) ≤ 48146
+  unfolding textOf
+  text-fits (refused {rule} {culprit} e) =
+      let h = refused-small rule culprit bytes e in
+      omega (arith, refused-few rule culprit (omega (arith, h .0)) (omega (arith, h .1)))
+  text-fits (few-numbers ok h) = omega (arith, refused-few 10 0 (omega arith) (omega arith))
+  text-fits (few-arcs ok l h) = omega (arith, refused-few 11 0 (omega arith) (omega arith))
+  text-fits (growing {count} {gain} {shown} s ring) =
+      let v = served-sound s in
+      let c = circuitOf bytes in
+      let few = count-few c v ring in
+      let head = loop-few count gain (omega arith) (gain-few c v ring) in
+      let rest = each-few (arcLine shown) 5 count (λ i l. arc-few shown i (arcs-few c v ring i l)) in
+      rw (length-append (line wordLoop (digits count ∷ signed gain ∷ [])) (each (arcLine shown) count)) (omega (arith, head, rest, few))
+  text-fits (timed E D s t) =
+      let v = served-sound s in
+      let c = circuitOf bytes in
+      let l = c .synchronizers in
+      let R = results c E D l ++ drop (6 * l) zeros in
+      let setups = missedSetups c D in
+      let holds = missedHolds c E in
+      let small : AllSmall R =
+      small-append (results c E D l) (drop (6 * l) zeros) (results-small c v E D t l (omega arith)) (small-drop (6 * l) zeros (small-zeros 3072)) in
+      let few : l ≤ 512 = v .synchronizers in
+      let head = timed-few l setups holds (omega arith) (omega (arith, writing.count-few (λ i. missed (setupSlack c i) (arrives late c D i)) l))
+          (omega (arith, writing.count-few (λ i. missed (holdSlack c i) (arrives early c E i)) l)) in
+      let rest = each-few (row R) 94 l (λ i k. row-few R i small (omega arith)) in
+      rw (length-append (line wordTimed (digits l ∷ digits setups ∷ digits holds ∷ [])) (each (row R) l)) (omega (arith, head, rest, few))
+
+  -- what the promise gives is never longer than the buffer
+  pub report-fits : {before after : List ℕ} {size : ℕ} → Report bytes before size after → size ≤ 48146
+  report-fits r = rw (r .sized) (text-fits (r .told))
