@@ -16,8 +16,9 @@ use Rattle.circuit.proofs.Sizes.{AllSmall, results-small}
 use Rattle.timing.specs.Promise.{Timing, refused, few-numbers, few-arcs, growing, timed, Served}
 use Rattle.timing.specs.declared.call.Answer.{Answer}
 use Rattle.timing.proofs.Writing as writing
+use Rattle.report.specs.Ascii.{ascii}
 use Rattle.report.specs.Decimal.{digits, signed}
-use Rattle.report.specs.Text.{wordRefused, wordLoop, wordTimed, line, each, arcLine, row, textOf}
+use Rattle.report.specs.Text.{line, each, arcLine, row, textOf}
 use Rattle.report.specs.Promise.{zeros, noArcs, reportOf, Report}
 use Rattle.report.proofs.Lengths.{small-append, small-drop, small-zeros, row-few, arc-few, each-few, refused-few, loop-few, timed-few}
 use Rattle.report.proofs.Refusals.{refused-small}
@@ -40,7 +41,7 @@ module _ (bytes : List ℕ) where
       let few = count-few c v ring in
       let head = loop-few count gain (omega arith) (gain-few c v ring) in
       let rest = each-few (arcLine shown) 5 count (λ i l. arc-few shown i (arcs-few c v ring i l)) in
-      rw (length-append (line wordLoop (digits count ∷ signed gain ∷ [])) (each (arcLine shown) count)) (omega (arith, head, rest, few))
+      rw (length-append (line (ascii "loop") (digits count ∷ signed gain ∷ [])) (each (arcLine shown) count)) (omega (arith, head, rest, few))
   text-fits (timed E D s t) =
       let v = served-sound s in
       let c = circuitOf bytes in
@@ -54,7 +55,7 @@ module _ (bytes : List ℕ) where
       let head = timed-few l setups holds (omega arith) (omega (arith, writing.count-few (λ i. missed (setupSlack c i) (arrives late c D i)) l))
           (omega (arith, writing.count-few (λ i. missed (holdSlack c i) (arrives early c E i)) l)) in
       let rest = each-few (row R) 94 l (λ i k. row-few R i small (omega arith)) in
-      rw (length-append (line wordTimed (digits l ∷ digits setups ∷ digits holds ∷ [])) (each (row R) l)) (omega (arith, head, rest, few))
+      rw (length-append (line (ascii "timed") (digits l ∷ digits setups ∷ digits holds ∷ [])) (each (row R) l)) (omega (arith, head, rest, few))
 
   -- what the promise gives is never longer than the buffer
   pub report-fits : {before after : List ℕ} {size : ℕ} → Report bytes before size after → size ≤ 48146

@@ -10,8 +10,9 @@ use lib.Dec.{eqb}
 use lib.IntN.{ℤ, pos, negsuc, natAbs}
 use lib.ListN.{length, take, drop, getD, replicate, length-append, length-take}
 use Rattle.circuit.proofs.Sizes.{Small, AllSmall}
+use Rattle.report.specs.Ascii.{ascii}
 use Rattle.report.specs.Decimal.{dash, digits, signed, result}
-use Rattle.report.specs.Text.{space, feed, wordRefused, wordLoop, wordTimed, spaced, line, each, arcLine, row}
+use Rattle.report.specs.Text.{space, feed, spaced, line, each, arcLine, row}
 use Rattle.report.proofs.Digits.{digits-few}
 
 -- a sign and 13 digits
@@ -78,21 +79,21 @@ each-few text m (suc n) h =
     (omega (arith, h n (omega arith), each-few text m n (λ i l. h i (omega arith)), mul-suc m n))
 
 -- first lines
-pub refused-few : (rule culprit : ℕ) → rule < 10000 → culprit < 10000 → length (line wordRefused (digits rule ∷ digits culprit ∷ [])) ≤ 18
+pub refused-few : (rule culprit : ℕ) → rule < 10000 → culprit < 10000 → length (line (ascii "refused") (digits rule ∷ digits culprit ∷ [])) ≤ 18
 refused-few rule culprit h k =
-    rw (line-long wordRefused (digits rule ∷ digits culprit ∷ []), append-nil (digits culprit), length-append (digits rule) (space ∷ digits culprit))
+    rw (line-long (ascii "refused") (digits rule ∷ digits culprit ∷ []), append-nil (digits culprit), length-append (digits rule) (space ∷ digits culprit))
     (omega (arith, digits-few 3 rule h, digits-few 3 culprit k))
 
-pub loop-few : (count : ℕ) (gain : ℤ) → count < 1000 → natAbs gain < 10 ^ 13 → length (line wordLoop (digits count ∷ signed gain ∷ [])) ≤ 24
+pub loop-few : (count : ℕ) (gain : ℤ) → count < 1000 → natAbs gain < 10 ^ 13 → length (line (ascii "loop") (digits count ∷ signed gain ∷ [])) ≤ 24
 loop-few count gain h k =
-    rw (line-long wordLoop (digits count ∷ signed gain ∷ []), append-nil (signed gain), length-append (digits count) (space ∷ signed gain))
+    rw (line-long (ascii "loop") (digits count ∷ signed gain ∷ []), append-nil (signed gain), length-append (digits count) (space ∷ signed gain))
     (omega (arith, digits-few 2 count h, signed-few gain k))
 
 pub timed-few : (l setups holds : ℕ) → l < 1000 → setups < 1000 → holds < 1000 →
-    length (line wordTimed (digits l ∷ digits setups ∷ digits holds ∷ [])) ≤ 18
+    length (line (ascii "timed") (digits l ∷ digits setups ∷ digits holds ∷ [])) ≤ 18
 timed-few l setups holds h k m =
     rw (
-      line-long wordTimed (digits l ∷ digits setups ∷ digits holds ∷ []),
+      line-long (ascii "timed") (digits l ∷ digits setups ∷ digits holds ∷ []),
       append-nil (digits holds),
       length-append (digits l) (space ∷ (digits setups ++ (space ∷ digits holds))),
       length-append (digits setups) (space ∷ digits holds),

@@ -1,16 +1,17 @@
 -- Numbers as text, a byte a character.
 use mathlib.Core.Bool.{cond}
 use mathlib.Core.List.{List, [], _∷_, _++_}
+use Prim.Native.Char.{code}
 use Prim.Native.Nat.{ℕ, zero, suc, _+_, _-_, _/_, _%_, _^_}
 use lib.Dec.{ltb, eqb}
 use lib.IntN.{ℤ, pos, negsuc}
 
 -- the character of a digit
 abbrev pub digit : ℕ → ℕ
-digit d = 48 + d
+digit d = code "0" + d
 
 abbrev pub dash : ℕ
-dash = 45
+dash = code "-"
 
 -- the digits of n, at most so many: those of its tens, if it has any, then that of its ones
 unfoldable pub digitsUpTo : ℕ → ℕ → List ℕ

@@ -1,3 +1,4 @@
+pub mod Ascii
 pub mod Decimal
 pub mod Text
 pub mod Written

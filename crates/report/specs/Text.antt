@@ -1,27 +1,19 @@
 -- The text of a report, as document 01 prints it.
 use mathlib.Core.List.{List, [], _∷_, _++_, map}
+use Prim.Native.Char.{code}
 use Prim.Native.Nat.{ℕ, zero, suc, _*_}
 use lib.IntN.{ℤ}
 use lib.ListN.{take, drop, getD}
+use Rattle.report.specs.Ascii.{ascii}
 use Rattle.report.specs.Decimal.{digits, signed, result}
 use Rattle.timing.specs.declared.call.Answer.{Answer}
 use Rattle.timing.specs.declared.call.Answer.the-variants.{Refused, Growing, Timed}
 
 abbrev pub space : ℕ
-space = 32
+space = code " "
 
 abbrev pub feed : ℕ
-feed = 10
-
--- the words that a report begins with
-abbrev pub wordRefused : List ℕ
-wordRefused = 114 ∷ 101 ∷ 102 ∷ 117 ∷ 115 ∷ 101 ∷ 100 ∷ []
-
-abbrev pub wordLoop : List ℕ
-wordLoop = 108 ∷ 111 ∷ 111 ∷ 112 ∷ []
-
-abbrev pub wordTimed : List ℕ
-wordTimed = 116 ∷ 105 ∷ 109 ∷ 101 ∷ 100 ∷ []
+feed = code "\n"
 
 -- fields with one space before each
 abbrev pub spaced : List (List ℕ) → List ℕ
@@ -47,6 +39,6 @@ row numbers i = line (digits i) (map result (take 6 (drop (6 * i) numbers)))
 
 -- the report of timing's answer about a circuit of l synchronizers, with the two buffers as timing left them
 unfoldable pub textOf : ℕ → Answer → List ℤ → List ℕ → List ℕ
-textOf l (Refused rule culprit) numbers arcs = line wordRefused (digits rule ∷ digits culprit ∷ [])
-textOf l (Growing count gain) numbers arcs = line wordLoop (digits count ∷ signed gain ∷ []) ++ each (arcLine arcs) count
-textOf l (Timed setups holds) numbers arcs = line wordTimed (digits l ∷ digits setups ∷ digits holds ∷ []) ++ each (row numbers) l
+textOf l (Refused rule culprit) numbers arcs = line (ascii "refused") (digits rule ∷ digits culprit ∷ [])
+textOf l (Growing count gain) numbers arcs = line (ascii "loop") (digits count ∷ signed gain ∷ []) ++ each (arcLine arcs) count
+textOf l (Timed setups holds) numbers arcs = line (ascii "timed") (digits l ∷ digits setups ∷ digits holds ∷ []) ++ each (row numbers) l

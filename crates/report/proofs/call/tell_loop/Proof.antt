@@ -1,6 +1,7 @@
 -- `tell_loop` writes the pieces of a growing loop, one after the other.
 use mathlib.Core.List.{_++_}
-use Rattle.report.specs.Text.{wordLoop, each, arcLine}
+use Rattle.report.specs.Ascii.{ascii}
+use Rattle.report.specs.Text.{each, arcLine}
 use Rattle.report.proofs.Heads.{counted, gained, end, loop-is}
 use Rattle.report.proofs.Writes.{wrote-then, room-first, room-rest}
 use Rattle.report.proofs.Signs.{word-is}
@@ -15,20 +16,20 @@ write-word-requires : tie.Need-write-word-requires
 write-word-requires c κs =
     let x = c .before .before .before .before in
     let room = rw (loop-is (x .args .count) (x .args .gain) (x .args .arcs .now)) at (x .pre .1) in
-    room-first wordLoop ((counted (x .args .count)) ++ ((gained (x .args .gain)) ++ (end ++ (each (arcLine (x .args .arcs .now)) (x .args .count))))) room
+    room-first (ascii "loop") ((counted (x .args .count)) ++ ((gained (x .args .gain)) ++ (end ++ (each (arcLine (x .args .arcs .now)) (x .args .count))))) room
 
 write-number-requires : tie.Need-write-number-requires
 write-number-requires c κs =
     let x = c .before .before .before .before .before .before .before .before in
     let room = rw (loop-is (x .args .count) (x .args .gain) (x .args .arcs .now)) at (x .pre .1) in
-    let one = room-rest wordLoop ((counted (x .args .count)) ++ ((gained (x .args .gain)) ++ (end ++ (each (arcLine (x .args .arcs .now)) (x .args .count))))) room (c .before .before .before .write-word .ensures) in
+    let one = room-rest (ascii "loop") ((counted (x .args .count)) ++ ((gained (x .args .gain)) ++ (end ++ (each (arcLine (x .args .arcs .now)) (x .args .count))))) room (c .before .before .before .write-word .ensures) in
     room-first (counted (x .args .count)) ((gained (x .args .gain)) ++ (end ++ (each (arcLine (x .args .arcs .now)) (x .args .count)))) one
 
 write-gain-requires : tie.Need-write-gain-requires
 write-gain-requires c κs =
     let x = c .before .before .before .before .before .before .before .before .before .before .before .before in
     let room = rw (loop-is (x .args .count) (x .args .gain) (x .args .arcs .now)) at (x .pre .1) in
-    let one = room-rest wordLoop ((counted (x .args .count)) ++ ((gained (x .args .gain)) ++ (end ++ (each (arcLine (x .args .arcs .now)) (x .args .count))))) room (c .before .before .before .before .before .before .before .write-word .ensures) in
+    let one = room-rest (ascii "loop") ((counted (x .args .count)) ++ ((gained (x .args .gain)) ++ (end ++ (each (arcLine (x .args .arcs .now)) (x .args .count))))) room (c .before .before .before .before .before .before .before .write-word .ensures) in
     let two = room-rest (counted (x .args .count)) ((gained (x .args .gain)) ++ (end ++ (each (arcLine (x .args .arcs .now)) (x .args .count)))) one (c .before .before .before .write-number .ensures) in
     rw (word-is (x .args .gain) (x .fits .gain)) (room-first (gained (x .args .gain)) (end ++ (each (arcLine (x .args .arcs .now)) (x .args .count))) two)
 
@@ -36,7 +37,7 @@ write-byte-requires : tie.Need-write-byte-requires
 write-byte-requires c κs =
     let x = c .before .before .before .before .before .before .before .before .before .before .before .before .before .before .before .before in
     let room = rw (loop-is (x .args .count) (x .args .gain) (x .args .arcs .now)) at (x .pre .1) in
-    let one = room-rest wordLoop ((counted (x .args .count)) ++ ((gained (x .args .gain)) ++ (end ++ (each (arcLine (x .args .arcs .now)) (x .args .count))))) room (c .before .before .before .before .before .before .before .before .before .before .before .write-word .ensures) in
+    let one = room-rest (ascii "loop") ((counted (x .args .count)) ++ ((gained (x .args .gain)) ++ (end ++ (each (arcLine (x .args .arcs .now)) (x .args .count))))) room (c .before .before .before .before .before .before .before .before .before .before .before .write-word .ensures) in
     let two = room-rest (counted (x .args .count)) ((gained (x .args .gain)) ++ (end ++ (each (arcLine (x .args .arcs .now)) (x .args .count)))) one (c .before .before .before .before .before .before .before .write-number .ensures) in
     let three = room-rest (gained (x .args .gain)) (end ++ (each (arcLine (x .args .arcs .now)) (x .args .count))) two (rw (word-is (x .args .gain) (x .fits .gain)) at (c .before .before .before .write-gain .ensures)) in
     room-first end (each (arcLine (x .args .arcs .now)) (x .args .count)) three
@@ -45,7 +46,7 @@ write-arcs-requires : tie.Need-write-arcs-requires
 write-arcs-requires c κs =
     let x = c .before .before .before .before .before .before .before .before .before .before .before .before .before .before .before .before .before .before .before .before in
     let room = rw (loop-is (x .args .count) (x .args .gain) (x .args .arcs .now)) at (x .pre .1) in
-    let one = room-rest wordLoop ((counted (x .args .count)) ++ ((gained (x .args .gain)) ++ (end ++ (each (arcLine (x .args .arcs .now)) (x .args .count))))) room (c .before .before .before .before .before .before .before .before .before .before .before .before .before .before .before .write-word .ensures) in
+    let one = room-rest (ascii "loop") ((counted (x .args .count)) ++ ((gained (x .args .gain)) ++ (end ++ (each (arcLine (x .args .arcs .now)) (x .args .count))))) room (c .before .before .before .before .before .before .before .before .before .before .before .before .before .before .before .write-word .ensures) in
     let two = room-rest (counted (x .args .count)) ((gained (x .args .gain)) ++ (end ++ (each (arcLine (x .args .arcs .now)) (x .args .count)))) one (c .before .before .before .before .before .before .before .before .before .before .before .write-number .ensures) in
     let three = room-rest (gained (x .args .gain)) (end ++ (each (arcLine (x .args .arcs .now)) (x .args .count))) two (rw (word-is (x .args .gain) (x .fits .gain)) at (c .before .before .before .before .before .before .before .write-gain .ensures)) in
     let four = room-rest end (each (arcLine (x .args .arcs .now)) (x .args .count)) three (c .before .before .before .write-byte .ensures) in

@@ -1,6 +1,7 @@
 -- `tell_timed` writes the pieces of a timed circuit, one after the other.
 use mathlib.Core.List.{_++_}
-use Rattle.report.specs.Text.{wordTimed, each, row}
+use Rattle.report.specs.Ascii.{ascii}
+use Rattle.report.specs.Text.{each, row}
 use Rattle.report.proofs.Heads.{counted, end, timed-is}
 use Rattle.report.proofs.Writes.{wrote-then, room-first, room-rest}
 use borrow.Author.Needs.{needs}
@@ -14,20 +15,20 @@ write-word-requires : tie.Need-write-word-requires
 write-word-requires c κs =
     let x = c .before .before .before in
     let room = rw (timed-is (x .args .l) (x .args .setups) (x .args .holds) (x .args .numbers .now)) at (x .pre .1) in
-    room-first wordTimed ((counted (x .args .l)) ++ ((counted (x .args .setups)) ++ ((counted (x .args .holds)) ++ (end ++ (each (row (x .args .numbers .now)) (x .args .l)))))) room
+    room-first (ascii "timed") ((counted (x .args .l)) ++ ((counted (x .args .setups)) ++ ((counted (x .args .holds)) ++ (end ++ (each (row (x .args .numbers .now)) (x .args .l)))))) room
 
 write-number-requires : tie.Need-write-number-requires
 write-number-requires c κs =
     let x = c .before .before .before .before .before .before .before in
     let room = rw (timed-is (x .args .l) (x .args .setups) (x .args .holds) (x .args .numbers .now)) at (x .pre .1) in
-    let one = room-rest wordTimed ((counted (x .args .l)) ++ ((counted (x .args .setups)) ++ ((counted (x .args .holds)) ++ (end ++ (each (row (x .args .numbers .now)) (x .args .l)))))) room (c .before .before .before .write-word .ensures) in
+    let one = room-rest (ascii "timed") ((counted (x .args .l)) ++ ((counted (x .args .setups)) ++ ((counted (x .args .holds)) ++ (end ++ (each (row (x .args .numbers .now)) (x .args .l)))))) room (c .before .before .before .write-word .ensures) in
     room-first (counted (x .args .l)) ((counted (x .args .setups)) ++ ((counted (x .args .holds)) ++ (end ++ (each (row (x .args .numbers .now)) (x .args .l))))) one
 
 write-number-requires-2 : tie.Need-write-number-requires-2
 write-number-requires-2 c κs =
     let x = c .before .before .before .before .before .before .before .before .before .before .before in
     let room = rw (timed-is (x .args .l) (x .args .setups) (x .args .holds) (x .args .numbers .now)) at (x .pre .1) in
-    let one = room-rest wordTimed ((counted (x .args .l)) ++ ((counted (x .args .setups)) ++ ((counted (x .args .holds)) ++ (end ++ (each (row (x .args .numbers .now)) (x .args .l)))))) room (c .before .before .before .before .before .before .before .write-word .ensures) in
+    let one = room-rest (ascii "timed") ((counted (x .args .l)) ++ ((counted (x .args .setups)) ++ ((counted (x .args .holds)) ++ (end ++ (each (row (x .args .numbers .now)) (x .args .l)))))) room (c .before .before .before .before .before .before .before .write-word .ensures) in
     let two = room-rest (counted (x .args .l)) ((counted (x .args .setups)) ++ ((counted (x .args .holds)) ++ (end ++ (each (row (x .args .numbers .now)) (x .args .l))))) one (c .before .before .before .write-number .ensures) in
     room-first (counted (x .args .setups)) ((counted (x .args .holds)) ++ (end ++ (each (row (x .args .numbers .now)) (x .args .l)))) two
 
@@ -35,7 +36,7 @@ write-number-requires-3 : tie.Need-write-number-requires-3
 write-number-requires-3 c κs =
     let x = c .before .before .before .before .before .before .before .before .before .before .before .before .before .before .before in
     let room = rw (timed-is (x .args .l) (x .args .setups) (x .args .holds) (x .args .numbers .now)) at (x .pre .1) in
-    let one = room-rest wordTimed ((counted (x .args .l)) ++ ((counted (x .args .setups)) ++ ((counted (x .args .holds)) ++ (end ++ (each (row (x .args .numbers .now)) (x .args .l)))))) room (c .before .before .before .before .before .before .before .before .before .before .before .write-word .ensures) in
+    let one = room-rest (ascii "timed") ((counted (x .args .l)) ++ ((counted (x .args .setups)) ++ ((counted (x .args .holds)) ++ (end ++ (each (row (x .args .numbers .now)) (x .args .l)))))) room (c .before .before .before .before .before .before .before .before .before .before .before .write-word .ensures) in
     let two = room-rest (counted (x .args .l)) ((counted (x .args .setups)) ++ ((counted (x .args .holds)) ++ (end ++ (each (row (x .args .numbers .now)) (x .args .l))))) one (c .before .before .before .before .before .before .before .write-number .ensures) in
     let three = room-rest (counted (x .args .setups)) ((counted (x .args .holds)) ++ (end ++ (each (row (x .args .numbers .now)) (x .args .l)))) two (c .before .before .before .write-number2 .ensures) in
     room-first (counted (x .args .holds)) (end ++ (each (row (x .args .numbers .now)) (x .args .l))) three
@@ -44,7 +45,7 @@ write-byte-requires : tie.Need-write-byte-requires
 write-byte-requires c κs =
     let x = c .before .before .before .before .before .before .before .before .before .before .before .before .before .before .before .before .before .before .before in
     let room = rw (timed-is (x .args .l) (x .args .setups) (x .args .holds) (x .args .numbers .now)) at (x .pre .1) in
-    let one = room-rest wordTimed ((counted (x .args .l)) ++ ((counted (x .args .setups)) ++ ((counted (x .args .holds)) ++ (end ++ (each (row (x .args .numbers .now)) (x .args .l)))))) room (c .before .before .before .before .before .before .before .before .before .before .before .before .before .before .before .write-word .ensures) in
+    let one = room-rest (ascii "timed") ((counted (x .args .l)) ++ ((counted (x .args .setups)) ++ ((counted (x .args .holds)) ++ (end ++ (each (row (x .args .numbers .now)) (x .args .l)))))) room (c .before .before .before .before .before .before .before .before .before .before .before .before .before .before .before .write-word .ensures) in
     let two = room-rest (counted (x .args .l)) ((counted (x .args .setups)) ++ ((counted (x .args .holds)) ++ (end ++ (each (row (x .args .numbers .now)) (x .args .l))))) one (c .before .before .before .before .before .before .before .before .before .before .before .write-number .ensures) in
     let three = room-rest (counted (x .args .setups)) ((counted (x .args .holds)) ++ (end ++ (each (row (x .args .numbers .now)) (x .args .l)))) two (c .before .before .before .before .before .before .before .write-number2 .ensures) in
     let four = room-rest (counted (x .args .holds)) (end ++ (each (row (x .args .numbers .now)) (x .args .l))) three (c .before .before .before .write-number3 .ensures) in
@@ -54,7 +55,7 @@ write-rows-requires : tie.Need-write-rows-requires
 write-rows-requires c κs =
     let x = c .before .before .before .before .before .before .before .before .before .before .before .before .before .before .before .before .before .before .before .before .before .before .before in
     let room = rw (timed-is (x .args .l) (x .args .setups) (x .args .holds) (x .args .numbers .now)) at (x .pre .1) in
-    let one = room-rest wordTimed ((counted (x .args .l)) ++ ((counted (x .args .setups)) ++ ((counted (x .args .holds)) ++ (end ++ (each (row (x .args .numbers .now)) (x .args .l)))))) room (c .before .before .before .before .before .before .before .before .before .before .before .before .before .before .before .before .before .before .before .write-word .ensures) in
+    let one = room-rest (ascii "timed") ((counted (x .args .l)) ++ ((counted (x .args .setups)) ++ ((counted (x .args .holds)) ++ (end ++ (each (row (x .args .numbers .now)) (x .args .l)))))) room (c .before .before .before .before .before .before .before .before .before .before .before .before .before .before .before .before .before .before .before .write-word .ensures) in
     let two = room-rest (counted (x .args .l)) ((counted (x .args .setups)) ++ ((counted (x .args .holds)) ++ (end ++ (each (row (x .args .numbers .now)) (x .args .l))))) one (c .before .before .before .before .before .before .before .before .before .before .before .before .before .before .before .write-number .ensures) in
     let three = room-rest (counted (x .args .setups)) ((counted (x .args .holds)) ++ (end ++ (each (row (x .args .numbers .now)) (x .args .l)))) two (c .before .before .before .before .before .before .before .before .before .before .before .write-number2 .ensures) in
     let four = room-rest (counted (x .args .holds)) (end ++ (each (row (x .args .numbers .now)) (x .args .l))) three (c .before .before .before .before .before .before .before .write-number3 .ensures) in
