@@ -1,6 +1,6 @@
 -- Decimal digits: any number of digits that is enough gives the same text, so a number's text is that of its tens, then its ones; and
 -- a number below 10^k has at most k digits.
-use mathlib.Core.Path.{_≡_, refl}
+use mathlib.Core.Path.{_≡_, refl, sym, _∙_}
 use mathlib.Core.Bool.{Bool, true, false}
 use mathlib.Core.List.{[], _∷_, _++_}
 use mathlib.Core.Logic.{_⊎_, inl, inr}
@@ -56,4 +56,12 @@ digits-few zero n h = rw (digits-one n h) (omega arith)
 digits-few (suc k) n h = elim (size n) [
   | inl few ↦ rw (digits-one n few) (omega arith)
   | inr many ↦ omega (arith, more-long n many, digits-few k (n / 10) (omega (arith, pow-succ' 10 (suc k))))
+]
+
+-- where k digits are known to be enough, they are all
+pub digits-within : (k n : ℕ) → n < 10 ^ suc k → digits n ≡ digitsUpTo (suc k) n
+digits-within zero n h = digits-one n h ∙ sym (digits-stop 0 n h)
+digits-within (suc k) n h = elim (size n) [
+  | inl few ↦ digits-one n few ∙ sym (digits-stop (suc k) n few)
+  | inr many ↦ rw (digits-more n many, digits-up (suc k) n many, digits-within k (n / 10) (omega (arith, pow-succ' 10 (suc k))))
 ]

@@ -9,3 +9,5 @@ pub mod Refusals
 pub mod Rings
 pub mod Fits
 pub mod Telling
+pub mod Only
+pub mod Printed
