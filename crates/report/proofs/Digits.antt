@@ -12,7 +12,7 @@ use lib.ListN.{length, length-append}
 use borrow.Author.Tests.{ltb-true, ltb-false, lt-ltb, le-ltb}
 use Rattle.report.specs.Decimal.{digit, digitsUpTo, digits}
 
-size : (n : ℕ) → (n < 10) ⊎ (10 ≤ n)
+pub size : (n : ℕ) → (n < 10) ⊎ (10 ≤ n)
 size n = go (ltb n 10) refl
   where
     go : (b : Bool) → ltb n 10 ≡ b → (n < 10) ⊎ (10 ≤ n)

@@ -1,12 +1,13 @@
 -- Every report fits into its buffer. A refusal has two small numbers; a growing loop shows at most 512 arcs; of a timed circuit no
 -- number but the mark is 2^41 or more in size, so its line has at most 94 bytes.
-use mathlib.Core.List.{List, _∷_, [], _++_}
-use Prim.Native.Nat.{ℕ, _+_, _*_, _≤_, _<_}
+use mathlib.Core.Path.{_≡_}
+use mathlib.Core.List.{List, [], _∷_, _++_}
+use Prim.Native.Nat.{ℕ, _*_, _≤_}
 use native.Mathlib.Omega.{arith}
-use lib.IntN.{ℤ, pos}
-use lib.ListN.{length, drop, replicate, length-append, length-drop, length-replicate}
+use lib.IntN.{ℤ}
+use lib.ListN.{length, drop, length-append}
 use Rattle.image.specs.Checks.{checkOf}
-use Rattle.image.specs.Valid.{imageIn}
+use Rattle.image.specs.declared.checks.Checked.the-variants as check
 use Rattle.image.proofs.Validity.{accepts}
 use Rattle.flow.specs.Flow.{late, early}
 use Rattle.circuit.specs.Circuit.{circuitOf}
@@ -15,6 +16,7 @@ use Rattle.circuit.proofs.Sound.{Sound, sound}
 use Rattle.circuit.proofs.Sizes.{AllSmall, results-small}
 use Rattle.timing.specs.Promise.{Timing, refused, few-numbers, few-arcs, growing, timed, Served}
 use Rattle.timing.specs.declared.call.Answer.{Answer}
+use Rattle.timing.specs.declared.call.Answer.the-variants.{Refused}
 use Rattle.timing.proofs.Writing as writing
 use Rattle.report.specs.Ascii.{ascii}
 use Rattle.report.specs.Decimal.{digits, signed}
@@ -56,6 +58,13 @@ module _ (bytes : List ℕ) where
           (omega (arith, writing.count-few (λ i. missed (holdSlack c i) (arrives early c E i)) l)) in
       let rest = each-few (row R) 94 l (λ i k. row-few R i small (omega arith)) in
       rw (length-append (line (ascii "timed") (digits l ∷ digits setups ∷ digits holds ∷ [])) (each (row R) l)) (omega (arith, head, rest, few))
+
+  -- timing's buffers are long enough: a refusal is one of the image
+  pub refused-by-image : {rule culprit : ℕ} {R : List ℤ} {A : List ℕ} → Timing bytes zeros noArcs (Refused rule culprit) R A →
+      checkOf bytes ≡ check.Refused rule culprit
+  refused-by-image (refused e) = e
+  refused-by-image (few-numbers ok h) = let v = sound bytes (accepts bytes .1 ok) in let z : ⊥ = omega (arith, v .synchronizers) in absurd z
+  refused-by-image (few-arcs ok l h) = let v = sound bytes (accepts bytes .1 ok) in let z : ⊥ = omega (arith, v .synchronizers) in absurd z
 
   -- what the promise gives is never longer than the buffer
   pub report-fits : {before after : List ℕ} {size : ℕ} → Report bytes before size after → size ≤ 48146

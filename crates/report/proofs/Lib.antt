@@ -11,3 +11,4 @@ pub mod Fits
 pub mod Telling
 pub mod Only
 pub mod Printed
+pub mod Determined
