@@ -16,10 +16,10 @@ pub(crate) fn write_word(word: &[u8], at: usize, text: &mut [u8]) -> usize
     ensures { λ r. ⌜ Wrote (now (word .entry)) (now (text .entry)) at (now (text .exit)) r ⌝ }
 {
     let mut next = at;
-    let mut i: usize = 0;
-    while i < word.len() {
-        next = write_byte(word[i], next, text);
-        i += 1;
+    let mut k: usize = 0;
+    while k < word.len() {
+        next = write_byte(word[k], next, text);
+        k += 1;
     }
     next
 }
@@ -67,10 +67,10 @@ pub(crate) fn write_arcs(arcs: &[u32], count: usize, at: usize, text: &mut [u8])
     ensures { λ r. ⌜ Wrote (each (arcLine (now (arcs .entry))) count) (now (text .entry)) at (now (text .exit)) r ⌝ }
 {
     let mut next = at;
-    let mut i: usize = 0;
-    while i < count {
-        next = write_arc(arcs[i], next, text);
-        i += 1;
+    let mut a: usize = 0;
+    while a < count {
+        next = write_arc(arcs[a], next, text);
+        a += 1;
     }
     next
 }

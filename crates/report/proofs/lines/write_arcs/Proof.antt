@@ -1,4 +1,4 @@
--- `write_arcs`: at arc i the lines of those before it are written.
+-- `write_arcs`: at place a of the buffer the lines of those before it are written.
 use mathlib.Core.Path.{_≡_}
 use Prim.Native.Nat.{_-_, _≤_}
 use native.Mathlib.Numerals.{add-one}
@@ -10,10 +10,10 @@ use Rattle.report.proofs.lines.write_arcs.Statement.{statement}
 use Rattle.report.proofs.lines.write_arcs.Tie as tie
 
 abbrev Inv-loop : tie.InvT-loop
-Inv-loop arcs count at text₀ next₀ i₀ text next i = (i ≤ count) × Wrote (each (arcLine arcs) i) text₀ at text next
+Inv-loop arcs count at text₀ next₀ a₀ text next a = (a ≤ count) × Wrote (each (arcLine arcs) a) text₀ at text next
 
 abbrev μ-loop : tie.MeasureT-loop
-μ-loop arcs count at text₀ next₀ i₀ text next i = count - i
+μ-loop arcs count at text₀ next₀ a₀ text next a = count - a
 
 loop-holds : tie.Need-loop-holds Inv-loop μ-loop
 loop-holds c = (omega arith, each-none _ _ _)
@@ -27,10 +27,10 @@ shared-slice-read-write-arc c = omega arith
 write-arc-requires : tie.Need-write-arc-requires Inv-loop μ-loop
 write-arc-requires c κs =
     let x = c .before .before .before .before .before .before in
-    each-room (arcLine (x .args .arcs .now)) (c .before .before .before .loop .i) (c .before .before .loop-test .taken) (x .pre .1) (c .before .before .before .loop .inv .1)
+    each-room (arcLine (x .args .arcs .now)) (c .before .before .before .loop .a) (c .before .before .loop-test .taken) (x .pre .1) (c .before .before .before .loop .inv .1)
 
-add-i : tie.Need-add-i Inv-loop μ-loop
-add-i c = omega (arith, c .before .before .before .before .before .loop-test .taken)
+add-a : tie.Need-add-a Inv-loop μ-loop
+add-a c = omega (arith, c .before .before .before .before .before .loop-test .taken)
 
 loop-less : tie.Need-loop-less Inv-loop μ-loop
 loop-less c = omega (arith, c .before .before .before .before .before .loop-test .taken)
@@ -39,7 +39,7 @@ loop-again : tie.Need-loop-again Inv-loop μ-loop
 loop-again c =
     let x = c .before .before .before .before .before .before .before .before .before in
     let at = c .before .before .before .before .before .before .loop in
-    (omega (arith, c .before .before .before .before .before .loop-test .taken), rw (add-one (at .i)) (each-more (arcLine (x .args .arcs .now)) (at .inv .1) (c .before .before .write-arc .ensures)))
+    (omega (arith, c .before .before .before .before .before .loop-test .taken), rw (add-one (at .a)) (each-more (arcLine (x .args .arcs .now)) (at .inv .1) (c .before .before .write-arc .ensures)))
 
 same-length : tie.Need-same-length Inv-loop μ-loop
 same-length c = wrote-long (c .before .loop .inv .1)
@@ -48,7 +48,7 @@ returns : tie.Need-returns Inv-loop μ-loop
 returns c =
     let x = c .before .before .before .before in
     let at = c .before .loop in
-    let e : at .i ≡ x .args .count = omega (arith, c .loop-test .left, at .inv .0) in
+    let e : at .a ≡ x .args .count = omega (arith, c .loop-test .left, at .inv .0) in
     each-all (arcLine (x .args .arcs .now)) e (at .inv .1)
 
 pub write-arcs-spec : {M : Type 1} → statement M
@@ -61,7 +61,7 @@ write-arcs-spec =
     mul-write-arc
     shared-slice-read-write-arc
     write-arc-requires
-    add-i
+    add-a
     loop-less
     loop-again
     same-length

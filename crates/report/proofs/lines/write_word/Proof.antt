@@ -1,4 +1,4 @@
--- `write_word`: at byte i those before it are written.
+-- `write_word`: at byte k those before it are written.
 use mathlib.Core.Path.{_≡_}
 use mathlib.Core.List.{[], _∷_}
 use Prim.Native.Nat.{_-_, _≤_}
@@ -12,10 +12,10 @@ use Rattle.report.proofs.lines.write_word.Statement.{statement}
 use Rattle.report.proofs.lines.write_word.Tie as tie
 
 abbrev Inv-loop : tie.InvT-loop
-Inv-loop word at text₀ next₀ i₀ text next i = (i ≤ length word) × Wrote (each (λ j. getD word j 0 ∷ []) i) text₀ at text next
+Inv-loop word at text₀ next₀ k₀ text next k = (k ≤ length word) × Wrote (each (λ j. getD word j 0 ∷ []) k) text₀ at text next
 
 abbrev μ-loop : tie.MeasureT-loop
-μ-loop word at text₀ next₀ i₀ text next i = length word - i
+μ-loop word at text₀ next₀ k₀ text next k = length word - k
 
 loop-holds : tie.Need-loop-holds Inv-loop μ-loop
 loop-holds c = (omega arith, each-none _ _ _)
@@ -27,10 +27,10 @@ write-byte-requires : tie.Need-write-byte-requires Inv-loop μ-loop
 write-byte-requires c κs =
     let x = c .before .before .before .before .before .before in
     let word = x .args .word .now in
-    each-room (λ j. getD word j 0 ∷ []) (c .before .before .before .loop .i) (c .before .before .loop-test .taken) (rw (bytes-are word) (x .pre)) (c .before .before .before .loop .inv .1)
+    each-room (λ j. getD word j 0 ∷ []) (c .before .before .before .loop .k) (c .before .before .loop-test .taken) (rw (bytes-are word) (x .pre)) (c .before .before .before .loop .inv .1)
 
-add-i : tie.Need-add-i Inv-loop μ-loop
-add-i c = omega (arith, c .before .before .before .before .before .loop-test .taken)
+add-k : tie.Need-add-k Inv-loop μ-loop
+add-k c = omega (arith, c .before .before .before .before .before .loop-test .taken)
 
 loop-less : tie.Need-loop-less Inv-loop μ-loop
 loop-less c = omega (arith, c .before .before .before .before .before .loop-test .taken)
@@ -39,7 +39,7 @@ loop-again : tie.Need-loop-again Inv-loop μ-loop
 loop-again c =
     let x = c .before .before .before .before .before .before .before .before .before in
     let at = c .before .before .before .before .before .before .loop in
-    (omega (arith, c .before .before .before .before .before .loop-test .taken), rw (add-one (at .i)) (each-more (λ j. getD (x .args .word .now) j 0 ∷ []) (at .inv .1) (c .before .before .write-byte .ensures)))
+    (omega (arith, c .before .before .before .before .before .loop-test .taken), rw (add-one (at .k)) (each-more (λ j. getD (x .args .word .now) j 0 ∷ []) (at .inv .1) (c .before .before .write-byte .ensures)))
 
 same-length : tie.Need-same-length Inv-loop μ-loop
 same-length c = wrote-long (c .before .loop .inv .1)
@@ -49,7 +49,7 @@ returns c =
     let x = c .before .before .before .before in
     let word = x .args .word .now in
     let at = c .before .loop in
-    let e : at .i ≡ length word = omega (arith, c .loop-test .left, at .inv .0) in
+    let e : at .k ≡ length word = omega (arith, c .loop-test .left, at .inv .0) in
     rw (bytes-are word) at (each-all (λ j. getD word j 0 ∷ []) e (at .inv .1))
 
 pub write-word-spec : {M : Type 1} → statement M
@@ -61,7 +61,7 @@ write-word-spec =
     loop-holds
     shared-slice-read-write-byte
     write-byte-requires
-    add-i
+    add-k
     loop-less
     loop-again
     same-length
