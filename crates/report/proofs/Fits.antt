@@ -55,7 +55,7 @@ module _ (bytes : List ℕ) where
       small-append (results c E D l) (drop (6 * l) zeros) (results-small c v E D t l (omega arith)) (small-drop (6 * l) zeros (small-zeros 3072)) in
       let few : l ≤ 512 = v .synchronizers in
       let head = timed-few l setups holds (omega arith) (omega (arith, writing.count-few (λ i. missed (setupSlack c i) (arrives late c D i)) l))
-          (omega (arith, writing.count-few (λ i. missed (holdSlack c i) (arrives early c E i)) l)) in
+      (omega (arith, writing.count-few (λ i. missed (holdSlack c i) (arrives early c E i)) l)) in
       let rest = each-few (row R) 94 l (λ i k. row-few R i small (omega arith)) in
       rw (length-append (line (ascii "timed") (digits l ∷ digits setups ∷ digits holds ∷ [])) (each (row R) l)) (omega (arith, head, rest, few))
 

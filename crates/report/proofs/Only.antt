@@ -4,9 +4,8 @@ use mathlib.Core.List.{List}
 use mathlib.Core.Logic.{_⊎_, inl, inr}
 use Prim.Native.Nat.{ℕ}
 use lib.IntN.{ℤ}
-use lib.ListN.{length}
 use Rattle.timing.specs.declared.call.Answer.the-variants.{Growing}
-use Rattle.timing.proofs.Only.{Same, BothGrow, timing-only}
+use Rattle.timing.proofs.Only.{Same, timing-only}
 use Rattle.report.specs.Promise.{zeros, noArcs, reportOf, Report}
 
 -- the same length and the same buffer

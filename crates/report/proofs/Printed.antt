@@ -50,8 +50,8 @@ refusal = refl
 
 -- P1, as document 01 prints it
 pub first : textOf 2 (Timed 0 0) (
-  pos 60 ∷ pos 60 ∷ pos 25 ∷ pos 60 ∷ pos 20 ∷ pos 30 ∷ pos 60 ∷ pos 80 ∷ pos 35 ∷ pos 80 ∷ pos 30 ∷ pos 10 ∷ []
-) [] ≡ ascii "timed 2 0 0\n0 60 60 25 60 20 30\n1 60 80 35 80 30 10\n"
+    pos 60 ∷ pos 60 ∷ pos 25 ∷ pos 60 ∷ pos 20 ∷ pos 30 ∷ pos 60 ∷ pos 80 ∷ pos 35 ∷ pos 80 ∷ pos 30 ∷ pos 10 ∷ []
+    ) [] ≡ ascii "timed 2 0 0\n0 60 60 25 60 20 30\n1 60 80 35 80 30 10\n"
 unfolding digits digitsUpTo signed result each textOf
 first = refl
 
@@ -62,8 +62,8 @@ second = refl
 
 -- P8: four marks, a missed hold
 pub eighth : textOf 2 (Timed 0 1) (
-  pos 100 ∷ pos 100 ∷ mark ∷ mark ∷ mark ∷ mark ∷ pos 100 ∷ pos 100 ∷ pos 9 ∷ pos 88 ∷ negsuc 0 ∷ pos 2 ∷ pos 0 ∷ []
-) [] ≡ ascii "timed 2 0 1\n0 100 100 - - - -\n1 100 100 9 88 -1 2\n"
+    pos 100 ∷ pos 100 ∷ mark ∷ mark ∷ mark ∷ mark ∷ pos 100 ∷ pos 100 ∷ pos 9 ∷ pos 88 ∷ negsuc 0 ∷ pos 2 ∷ pos 0 ∷ []
+    ) [] ≡ ascii "timed 2 0 1\n0 100 100 - - - -\n1 100 100 9 88 -1 2\n"
 unfolding digits digitsUpTo signed result each textOf
 eighth = refl
 

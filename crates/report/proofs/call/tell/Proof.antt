@@ -51,8 +51,7 @@ tell-timed-requires c κs =
     let x = c .before .before .before .before .before .before .before .before .before .before .before .before .before in
     let t = c .before .before .before .before .before .before .before .before .timing .ensures in
     let e = c .before .before .before .before .setups .given .1 in
-    let l = c .before .before .word .ensures in
-    (
+    let l = c .before .before .word .ensures in (
       rw (l, synchronizers-are (x .args .bytes .now)) (numbers-hold (x .args .bytes .now) (rw e at t)),
       room-for (x .args .bytes .now) t _ (x .args .text .now) (x .pre) (timed-told (x .args .bytes .now) t l e),
     )

@@ -31,7 +31,6 @@ write-digits-below t =
     (falls 1 write-digits-kinds.ps _<_ μ-write-digits t)
     write-digits.Pre
 
--- src/decimal.rt:29:27
 write-digits-digit-of-requires : (t : ℕ) → write-digits-lts.Need-digit-of-requires (
   digit-of-reads.Asked,
   digit-of-reads.Learnt,
@@ -42,7 +41,6 @@ write-digits-digit-of-requires : (t : ℕ) → write-digits-lts.Need-digit-of-re
 ) (write-digits-at t) write-digits.Post
 write-digits-digit-of-requires t c κs = c .if1 .taken
 
--- src/decimal.rt:29:9
 write-digits-write-byte-requires : (t : ℕ) → write-digits-lts.Need-write-byte-requires (
   digit-of-reads.Asked,
   digit-of-reads.Learnt,
@@ -53,7 +51,6 @@ write-digits-write-byte-requires : (t : ℕ) → write-digits-lts.Need-write-byt
 ) (write-digits-at t) write-digits.Post
 write-digits-write-byte-requires t c κs = let x = c .before .before .before .before in omega (arith, x .pre .1 .room, digits-some (x .args .n))
 
--- src/decimal.rt:29:9
 write-digits-same-length : (t : ℕ) → write-digits-lts.Need-same-length (
   digit-of-reads.Asked,
   digit-of-reads.Learnt,
@@ -64,7 +61,6 @@ write-digits-same-length : (t : ℕ) → write-digits-lts.Need-same-length (
 ) (write-digits-at t) write-digits.Post
 write-digits-same-length t c = c .before .before .write-byte .kept .1 .1 .0
 
--- src/decimal.rt:29:9
 write-digits-returns : (t : ℕ) → write-digits-lts.Need-returns (
   digit-of-reads.Asked,
   digit-of-reads.Learnt,
@@ -78,7 +74,6 @@ write-digits-returns t c =
     rw (digits-one (x .args .n) (c .before .before .before .before .before .if1 .taken), ← c .before .before .before .before .digit-of .ensures)
     (c .before .before .write-byte .ensures)
 
--- src/decimal.rt:31:9
 write-digits-write-digits-requires : (t : ℕ) → write-digits-lts.Need-write-digits-requires (
   digit-of-reads.Asked,
   digit-of-reads.Learnt,
@@ -94,7 +89,6 @@ write-digits-write-digits-requires t c κs =
     let room = rw e at (x .pre .1) in
     (omega (arith, x .pre .0), room-first (digits (x .args .n / 10)) (digit (x .args .n % 10) ∷ []) room)
 
--- src/decimal.rt:32:16
 write-digits-digit-of-requires-2 : (t : ℕ) → write-digits-lts.Need-digit-of-requires-2 (
   digit-of-reads.Asked,
   digit-of-reads.Learnt,
@@ -105,7 +99,6 @@ write-digits-digit-of-requires-2 : (t : ℕ) → write-digits-lts.Need-digit-of-
 ) (write-digits-at t) write-digits.Post
 write-digits-digit-of-requires-2 t c κs = omega arith
 
--- src/decimal.rt:32:5
 write-digits-write-byte-requires-2 : (t : ℕ) → write-digits-lts.Need-write-byte-requires-2 (
   digit-of-reads.Asked,
   digit-of-reads.Learnt,
@@ -120,7 +113,6 @@ write-digits-write-byte-requires-2 t c κs =
     let room = rw e at (x .pre .1) in
     rw (c .before .digit-of2 .ensures) (room-rest (digits (x .args .n / 10)) (digit (x .args .n % 10) ∷ []) room (c .before .before .before .before .write-digits .ensures))
 
--- src/decimal.rt:24:1
 write-digits-same-length-2 : (t : ℕ) → write-digits-lts.Need-same-length-2 (
   digit-of-reads.Asked,
   digit-of-reads.Learnt,
@@ -131,7 +123,6 @@ write-digits-same-length-2 : (t : ℕ) → write-digits-lts.Need-same-length-2 (
 ) (write-digits-at t) write-digits.Post
 write-digits-same-length-2 t c = wrote-long (c .before .before .write-byte2 .ensures) ∙ wrote-long (c .before .before .before .before .before .before .before .write-digits .ensures)
 
--- src/decimal.rt:24:1
 write-digits-returns-2 : (t : ℕ) → write-digits-lts.Need-returns-2 (
   digit-of-reads.Asked,
   digit-of-reads.Learnt,
