@@ -60,7 +60,7 @@ no-mark (pos n) e = no-dash n [] e
 no-mark (negsuc n) e = omega (arith, digits-some (suc n), ap (λ (l : List ℕ). length (drop 1 l)) e)
 
 -- the mark, or a number
-shown : (z : ℤ) → ((z ≡ mark) × (result z ≡ dash ∷ [])) ⊎ (result z ≡ signed z)
+pub shown : (z : ℤ) → ((z ≡ mark) × (result z ≡ dash ∷ [])) ⊎ (result z ≡ signed z)
 unfolding result
 shown (pos n) = go (eqb n (2 ^ 63 - 1)) refl
   where

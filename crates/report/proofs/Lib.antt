@@ -12,3 +12,4 @@ pub mod Telling
 pub mod Only
 pub mod Printed
 pub mod Determined
+pub mod Decoded
