@@ -539,4 +539,5 @@ def main():
     print("%d cases" % len(CASES))
 
 
-main()
+if __name__ == "__main__":
+    main()

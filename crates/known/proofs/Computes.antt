@@ -10,6 +10,8 @@ use Rattle.flow.specs.Flow.{into, arrival, next, round}
 use Rattle.circuit.specs.Circuit.{circuitOf}
 use Rattle.circuit.specs.Clock.{shift, isLatch, opening, launch, delay, weight}
 use Rattle.circuit.specs.Times.{setupSlack, holdSlack, count, six, results}
+use Rattle.report.specs.Decimal.{digitsUpTo, digits, signed, result}
+use Rattle.report.specs.Text.{each, textOf}
 use Rattle.known.specs.Circuits.{known, p1, p2, p3, p4, p5, p7, p8, p9, p10}
 
 unfoldable pub computes : Unit {0}
@@ -19,4 +21,5 @@ unfolding known p1 p2 p3 p4 p5 p7 p8 p9 p10
     into arrival next round maxℤ minℤ
     circuitOf shift isLatch opening launch delay weight
     setupSlack holdSlack count six results
+    digitsUpTo digits signed result each textOf
 computes = tt

@@ -1,6 +1,7 @@
 pub mod Words
 pub mod Checks
 pub mod Traces
+pub mod Rings
 pub mod Outcomes
 pub mod Computes
 pub mod Known

@@ -2,10 +2,12 @@
 -- ring that passes leaves no late departures that fit.
 use mathlib.Core.Path.{_≡_, refl}
 use mathlib.Core.Bool.{true}
-use mathlib.Core.List.{List, [], _∷_}
-use Prim.Native.Nat.{ℕ, suc, pred}
+use mathlib.Core.List.{List, [], _∷_, _++_}
+use Prim.Native.Nat.{ℕ, suc, pred, _*_}
+use Prim.Native.String.{String}
 use native.Mathlib.Omega.{arith}
 use lib.IntN.{ℤ, pos}
+use lib.ListN.{length, drop}
 use Rattle.image.specs.Checks.{checkOf}
 use Rattle.image.specs.Valid.{Valid}
 use Rattle.image.specs.declared.kind.Image.{Image}
@@ -20,9 +22,14 @@ use Rattle.circuit.specs.Circuit.{Circuit, circuitOf}
 use Rattle.circuit.specs.Clock.{flow}
 use Rattle.circuit.proofs.Sound.{Sound, sound, good}
 use Rattle.circuit.specs.Times.{results, missedSetups, missedHolds}
+use Rattle.timing.specs.declared.call.Answer.the-variants as answer
+use Rattle.report.specs.Ascii.{ascii}
+use Rattle.report.specs.Text.{textOf}
+use Rattle.report.specs.Promise.{zeros, noArcs}
 use Rattle.known.specs.Circuits.{Outcome, timed, growing, path, Known}
 use Rattle.known.specs.Holds.{Timed, Grows, Led, Comes, Holds, Every}
 use Rattle.known.proofs.Traces.{tracing}
+use Rattle.known.proofs.Rings.{lonely}
 use Rattle.known.proofs.Checks.{Check, given, always, never, _and_, less, atMost, equal, lessℤ, equalℤ, isTrue, equals, every, distinct, below}
 
 -- an answer that accepts
@@ -38,8 +45,8 @@ abbrev pub settling : (s : Side) (f : Flow) (n : ℕ) → Check (Settled s f n)
 settling s f n = below (λ i. equalℤ (round s f (suc n) i) (round s f n i)) (f .nodes)
 
 -- l rounds, less one, are enough for l synchronizers
-abbrev timing : (c : Circuit) (numbers : List ℤ) (setups holds : ℕ) → Check (Sound c → Timed c numbers setups holds)
-timing c numbers setups holds =
+abbrev timing : (c : Circuit) (numbers : List ℤ) (setups holds : ℕ) (text : String) → Check (Sound c → Timed c numbers setups holds text)
+timing c numbers setups holds text =
     let n = pred (c .synchronizers) in
     let E = round early (flow early c) n in
     let D = round late (flow late c) n in
@@ -53,13 +60,15 @@ timing c numbers setups holds =
       };
       gives = h .1 .1 .0;
       setups-missed = h .1 .1 .1 .0;
-      holds-missed = h .1 .1 .1 .1;
+      holds-missed = h .1 .1 .1 .1 .0;
+      prints = h .1 .1 .1 .1 .1;
     })
     (settling early (flow early c) n
     and settling late (flow late c) n
     and equals equalℤ (results c E D (c .synchronizers)) numbers
     and equal (missedSetups c D) setups
-    and equal (missedHolds c E) holds)
+    and equal (missedHolds c E) holds
+    and equals equal (textOf (c .synchronizers) (answer.Timed setups holds) (numbers ++ drop (6 * c .synchronizers) zeros) noArcs) (ascii text))
 
 -- the arcs lead from i to j, from latch to latch
 abbrev pub walking : (f : Flow) (i : ℕ) (p : List ℕ) (j : ℕ) → Check (Walk f i p j)
@@ -69,9 +78,9 @@ walking f i (a ∷ p) j =
     (less a (f .arcs) and equal (f .source a) i and isTrue (f .latch (f .target a)) and walking f (f .target a) p j)
 
 -- the ring starts where its first arc leaves
-abbrev growth : (c : Circuit) (arcs : List ℕ) (total : ℤ) → Check (Sound c → Grows c arcs total)
-growth c [] total = never
-growth c (a ∷ p) total =
+abbrev growth : (c : Circuit) (arcs : List ℕ) (total : ℤ) (text : String) → Check (Sound c → Grows c arcs total text)
+growth c [] total text = never
+growth c (a ∷ p) total text =
     let f = flow late c in
     let i = c .from a in
     given
@@ -85,13 +94,17 @@ growth c (a ∷ p) total =
       loop = r;
       path = refl;
       lowest = h .1 .1 .1 .0;
-      gains = h .1 .1 .1 .1;
+      gains = h .1 .1 .1 .1 .0;
+      only = h .1 .1 .1 .1 .1 .0 (good late c v);
+      prints = h .1 .1 .1 .1 .1 .1;
     })
     (walking f i (a ∷ p) i
     and distinct (sources f (a ∷ p))
     and lessℤ (pos 0) (gain f (a ∷ p))
     and every (atMost i) (sources f (a ∷ p))
-    and equalℤ (gain f (a ∷ p)) total)
+    and equalℤ (gain f (a ∷ p)) total
+    and lonely f (a ∷ p)
+    and equals equal (textOf (c .synchronizers) (answer.Growing (length (a ∷ p)) total) zeros ((a ∷ p) ++ drop (length (a ∷ p)) noArcs)) (ascii text))
 
 -- the path, by the departures that the rounds settle at
 abbrev leading : (c : Circuit) (i s : ℕ) (arcs : List ℕ) → Check (Sound c → Led c i s arcs)
@@ -104,8 +117,8 @@ leading c i s arcs =
     (settling late (flow late c) n and tracing (flow late c) n i s arcs)
 
 abbrev coming : (c : Circuit) (o : Outcome) → Check (Sound c → Comes c o)
-coming c (timed numbers setups holds) = timing c numbers setups holds
-coming c (growing arcs total) = growth c arcs total
+coming c (timed numbers setups holds text) = timing c numbers setups holds text
+coming c (growing arcs total text) = growth c arcs total text
 coming c (path i s arcs) = leading c i s arcs
 
 -- all that is known of one circuit, and of a list of them

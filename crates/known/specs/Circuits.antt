@@ -1,6 +1,7 @@
 -- The circuits with known numbers of document 01, as the bytes of their images, and what is known of each.
 use mathlib.Core.List.{List, [], _∷_}
 use Prim.Native.Nat.{ℕ}
+use Prim.Native.String.{String}
 use lib.IntN.{ℤ, pos, negℤ}
 use Rattle.circuit.specs.Times.{mark}
 use Rattle.known.specs.Layout.{Window, _to_, phase, latch, flipFlop, arc, image}
@@ -47,10 +48,10 @@ unfoldable pub p10 : List ℕ
 p10 = image 100 (phase 100 40 ∷ []) [] []
 
 pub data Outcome : Type 0 where
-  -- the six results of each synchronizer, how many setups and how many holds are missed
-  timed : List ℤ → ℕ → ℕ → Outcome
-  -- the arcs of a growing ring in order of travel, the first leaving its lowest-numbered synchronizer, and the ring's gain
-  growing : List ℕ → ℤ → Outcome
+  -- the six results of each synchronizer, how many setups and how many holds are missed, the report
+  timed : List ℤ → ℕ → ℕ → String → Outcome
+  -- the arcs of the only growing ring in order of travel, the first leaving its lowest-numbered synchronizer; its gain; the report
+  growing : List ℕ → ℤ → String → Outcome
   -- the path to a synchronizer: that synchronizer, the launching one, the arcs in order of travel
   path : ℕ → ℕ → List ℕ → Outcome
 
@@ -70,29 +71,33 @@ known =
       bytes = p1;
       outcome = timed (
           pos 60 ∷ pos 60 ∷ pos 25 ∷ pos 60 ∷ pos 20 ∷ pos 30 ∷
-          pos 60 ∷ pos 80 ∷ pos 35 ∷ pos 80 ∷ pos 30 ∷ pos 10 ∷ []) 0 0;
+          pos 60 ∷ pos 80 ∷ pos 35 ∷ pos 80 ∷ pos 30 ∷ pos 10 ∷ []) 0 0
+          "timed 2 0 0\n0 60 60 25 60 20 30\n1 60 80 35 80 30 10\n";
     } ∷
-    record { number = 2; bytes = p2; outcome = growing (1 ∷ 0 ∷ []) (pos 1) } ∷
+    record { number = 2; bytes = p2; outcome = growing (1 ∷ 0 ∷ []) (pos 1) "loop 2 1\n1\n0\n" } ∷
     record {
       number = 3;
       bytes = p3;
       outcome = timed (
           pos 60 ∷ pos 60 ∷ pos 25 ∷ pos 60 ∷ pos 20 ∷ pos 30 ∷
-          pos 60 ∷ pos 90 ∷ pos 35 ∷ pos 90 ∷ pos 30 ∷ pos 0 ∷ []) 0 0;
+          pos 60 ∷ pos 90 ∷ pos 35 ∷ pos 90 ∷ pos 30 ∷ pos 0 ∷ []) 0 0
+          "timed 2 0 0\n0 60 60 25 60 20 30\n1 60 90 35 90 30 0\n";
     } ∷
     record {
       number = 4;
       bytes = p4;
       outcome = timed (
           pos 60 ∷ pos 60 ∷ pos 15 ∷ pos 60 ∷ pos 10 ∷ pos 30 ∷
-          pos 60 ∷ pos 100 ∷ pos 35 ∷ pos 100 ∷ pos 30 ∷ minus 10 ∷ []) 1 0;
+          pos 60 ∷ pos 100 ∷ pos 35 ∷ pos 100 ∷ pos 30 ∷ minus 10 ∷ []) 1 0
+          "timed 2 1 0\n0 60 60 15 60 10 30\n1 60 100 35 100 30 -10\n";
     } ∷
     record {
       number = 5;
       bytes = p5;
       outcome = timed (
           pos 60 ∷ pos 60 ∷ pos 60 ∷ pos 60 ∷ pos 55 ∷ pos 30 ∷
-          pos 80 ∷ pos 80 ∷ pos 80 ∷ pos 80 ∷ pos 75 ∷ pos 10 ∷ []) 0 0;
+          pos 80 ∷ pos 80 ∷ pos 80 ∷ pos 80 ∷ pos 75 ∷ pos 10 ∷ []) 0 0
+          "timed 2 0 0\n0 60 60 60 60 55 30\n1 80 80 80 80 75 10\n";
     } ∷
     record { number = 6; bytes = p1; outcome = path 0 0 (1 ∷ 0 ∷ []) } ∷
     record {
@@ -100,14 +105,16 @@ known =
       bytes = p7;
       outcome = timed (
           pos 100 ∷ pos 100 ∷ mark ∷ mark ∷ mark ∷ mark ∷
-          pos 100 ∷ pos 100 ∷ pos 10 ∷ pos 88 ∷ pos 0 ∷ pos 2 ∷ []) 0 0;
+          pos 100 ∷ pos 100 ∷ pos 10 ∷ pos 88 ∷ pos 0 ∷ pos 2 ∷ []) 0 0
+          "timed 2 0 0\n0 100 100 - - - -\n1 100 100 10 88 0 2\n";
     } ∷
     record {
       number = 8;
       bytes = p8;
       outcome = timed (
           pos 100 ∷ pos 100 ∷ mark ∷ mark ∷ mark ∷ mark ∷
-          pos 100 ∷ pos 100 ∷ pos 9 ∷ pos 88 ∷ minus 1 ∷ pos 2 ∷ []) 0 1;
+          pos 100 ∷ pos 100 ∷ pos 9 ∷ pos 88 ∷ minus 1 ∷ pos 2 ∷ []) 0 1
+          "timed 2 0 1\n0 100 100 - - - -\n1 100 100 9 88 -1 2\n";
     } ∷
     record {
       number = 9;
@@ -115,8 +122,9 @@ known =
       outcome = timed (
           pos 60 ∷ pos 60 ∷ mark ∷ mark ∷ mark ∷ mark ∷
           pos 60 ∷ pos 90 ∷ pos 60 ∷ pos 90 ∷ pos 60 ∷ pos 10 ∷
-          pos 60 ∷ pos 120 ∷ pos 60 ∷ pos 120 ∷ pos 60 ∷ minus 20 ∷ []) 1 0;
+          pos 60 ∷ pos 120 ∷ pos 60 ∷ pos 120 ∷ pos 60 ∷ minus 20 ∷ []) 1 0
+          "timed 3 1 0\n0 60 60 - - - -\n1 60 90 60 90 60 10\n2 60 120 60 120 60 -20\n";
     } ∷
     record { number = 9; bytes = p9; outcome = path 2 0 (0 ∷ 1 ∷ []) } ∷
-    record { number = 10; bytes = p10; outcome = timed [] 0 0 } ∷
+    record { number = 10; bytes = p10; outcome = timed [] 0 0 "timed 0 0 0\n" } ∷
     []
