@@ -3,7 +3,7 @@
 use mathlib.Core.Path.{_≡_, refl, sym, ap, _∙_}
 use mathlib.Core.List.{List, [], _∷_, _++_, map, append-assoc, append-nil}
 use mathlib.Core.Logic.{inl, inr}
-use Prim.Native.Nat.{ℕ, zero, suc, _+_, _*_, _/_, _%_, _≤_, _<_}
+use Prim.Native.Nat.{ℕ, zero, suc, _*_, _/_, _%_, _≤_, _<_}
 use native.Mathlib.Omega.{arith}
 use lib.IntN.{ℤ, pos, negsuc}
 use lib.ListN.{take, drop, getD}
@@ -12,8 +12,8 @@ use Rattle.flow.proofs.Joined.{every-join}
 use Rattle.timing.specs.declared.call.Answer.{Answer}
 use Rattle.timing.specs.declared.call.Answer.the-variants.{Refused, Growing, Timed}
 use Rattle.report.specs.Ascii.{ascii}
-use Rattle.report.specs.Decimal.{digit, dash, digits, signed, result}
-use Rattle.report.specs.Text.{space, feed, spaced, line, each, arcLine, row, textOf}
+use Rattle.report.specs.Decimal.{digit, digits, signed, result}
+use Rattle.report.specs.Text.{feed, spaced, line, each, arcLine, row, textOf}
 use Rattle.report.proofs.Digits.{size, digits-one, digits-more}
 use Rattle.report.proofs.Determined.{digits-determine, signed-determines, shown, result-determines}
 

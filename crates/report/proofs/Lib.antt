@@ -1,15 +1,20 @@
--- The laws that the report's proofs share.
+-- The laws that the report's proofs share, and what the promise is worth.
+-- writing
 pub mod Digits
 pub mod Signs
 pub mod Writes
 pub mod Rows
 pub mod Heads
+-- how long a report can be
 pub mod Lengths
 pub mod Refusals
 pub mod Rings
 pub mod Fits
+-- the call, and what its promise leaves open
 pub mod Telling
 pub mod Only
+-- what the text says
 pub mod Printed
 pub mod Determined
 pub mod Decoded
+pub mod Tells

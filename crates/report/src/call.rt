@@ -17,10 +17,11 @@ use image::word;
 use timing::Answer;
 use timing::timing;
 
-// The most bytes that a report can have: `timed 512 512 512` with its line feed is 18, and a line for each of 512 synchronizers is at
+// No report has more bytes: `timed 512 512 512` with its line feed is 18, and a line for each of 512 synchronizers is at
 // most 94, a number of 3 digits, six times a space with a sign and 13 digits, and a line feed.
 pub const LONGEST: usize = 48_146;
 
+// `refused NUMBER RECORD`.
 fn tell_refused(rule: u32, culprit: u32, text: &mut [u8]) -> usize
     requires { ⌜ Room (textOf 0 (answer.Refused rule culprit) [] []) 0 (now text) ⌝ }
     ensures { λ r. ⌜ Wrote (textOf 0 (answer.Refused rule culprit) [] []) (now (text .entry)) 0 (now (text .exit)) r ⌝ }
@@ -31,6 +32,7 @@ fn tell_refused(rule: u32, culprit: u32, text: &mut [u8]) -> usize
     write_byte(b'\n', three, text)
 }
 
+// `loop ARCS GAIN`, then the arcs.
 fn tell_loop(count: u32, gain: i64, arcs: &[u32], text: &mut [u8]) -> usize
     requires { ⌜ count ≤ length (now arcs) ⌝ }
     requires { ⌜ Room (textOf 0 (answer.Growing count gain) [] (now arcs)) 0 (now text) ⌝ }
@@ -43,6 +45,7 @@ fn tell_loop(count: u32, gain: i64, arcs: &[u32], text: &mut [u8]) -> usize
     write_arcs(arcs, count as usize, four, text)
 }
 
+// `timed SYNCHRONIZERS SETUPS HOLDS`, then a line for each synchronizer.
 fn tell_timed(l: u32, setups: u32, holds: u32, numbers: &[i64], text: &mut [u8]) -> usize
     requires { ⌜ 6 * l ≤ length (now numbers) ⌝ }
     requires { ⌜ Room (textOf l (answer.Timed setups holds) (now numbers) []) 0 (now text) ⌝ }

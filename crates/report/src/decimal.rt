@@ -10,6 +10,7 @@ ghost use Rattle.report.specs.Written.{Room, Wrote};
 // What stands where no arc leads in.
 const MARK: i64 = 9_223_372_036_854_775_807;
 
+// One character.
 pub(crate) fn write_byte(byte: u8, at: usize, text: &mut [u8]) -> usize
     requires { ⌜ Room (byte ∷ []) at (now text) ⌝ }
     ensures { λ r. ⌜ Wrote (byte ∷ []) (now (text .entry)) at (now (text .exit)) r ⌝ }
@@ -18,6 +19,7 @@ pub(crate) fn write_byte(byte: u8, at: usize, text: &mut [u8]) -> usize
     at + 1
 }
 
+// The character of a digit.
 fn digit_of(d: u64) -> u8
     requires { ⌜ d < 10 ⌝ }
     ensures { λ r. ⌜ r ≡ digit d ⌝ }
