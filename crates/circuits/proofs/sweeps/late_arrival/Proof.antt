@@ -1,0 +1,54 @@
+-- `sweeps::late_arrival` is safe and ends: nothing has to hold from turn to turn.
+use Prim.Native.Nat.{_-_}
+use native.Mathlib.Omega.{arith}
+use Rattle.circuits.proofs.sweeps.late_arrival.Statement.{statement}
+use Rattle.circuits.proofs.sweeps.late_arrival.Tie as tie
+
+abbrev Inv-loop : tie.InvT-loop
+Inv-loop book ends i many best₀ n₀ best n = Unit {0}
+
+abbrev μ-loop : tie.MeasureT-loop
+μ-loop book ends i many best₀ n₀ best n = many - n
+
+look-requires : tie.Need-look-requires Inv-loop μ-loop
+look-requires c κs = tt
+
+loop-holds : tie.Need-loop-holds Inv-loop μ-loop
+loop-holds c = tt
+
+arc-into-requires : tie.Need-arc-into-requires Inv-loop μ-loop
+arc-into-requires c κs = tt
+
+late-brought-requires : tie.Need-late-brought-requires Inv-loop μ-loop
+late-brought-requires c κs = tt
+
+later-requires : tie.Need-later-requires Inv-loop μ-loop
+later-requires c κs = tt
+
+add-n : tie.Need-add-n Inv-loop μ-loop
+add-n c = omega arith
+
+loop-less : tie.Need-loop-less Inv-loop μ-loop
+loop-less c = omega arith
+
+loop-again : tie.Need-loop-again Inv-loop μ-loop
+loop-again c = tt
+
+returns : tie.Need-returns Inv-loop μ-loop
+returns c = tt
+
+pub late-arrival-spec : {M : Type 1} → statement M
+late-arrival-spec =
+    tie.close
+    (tie.spec
+    Inv-loop
+    μ-loop
+    look-requires
+    loop-holds
+    arc-into-requires
+    late-brought-requires
+    later-requires
+    add-n
+    loop-less
+    loop-again
+    returns)
