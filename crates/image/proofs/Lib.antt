@@ -1,4 +1,7 @@
 -- The laws about images that the crates above cite.
+pub mod Found
+pub mod Handing
+pub mod Held
 pub mod Lowest
 pub mod Only
 pub mod Orders

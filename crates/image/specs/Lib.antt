@@ -1,6 +1,7 @@
 pub mod Words
 pub mod Kind
 pub mod Records
+pub mod Reader
 pub mod Rules
 pub mod Checks
 pub mod Valid

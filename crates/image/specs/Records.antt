@@ -11,12 +11,12 @@ use Rattle.image.specs.declared.records.Arc.{Arc}
 abbrev pub placeOf : ℕ → ℕ → ℕ → ℕ
 placeOf table size i = table + size * i
 
-unfoldable pub phaseAt : List ℕ → Layout → ℕ → Phase
-phaseAt bytes layout i =
-    let at = placeOf (layout .phases) 8 i in record { closing = wordAt bytes at; active = wordAt bytes (at + 4) }
+-- the record that starts at a byte
+abbrev pub phaseFrom : List ℕ → ℕ → Phase
+phaseFrom bytes at = record { closing = wordAt bytes at; active = wordAt bytes (at + 4) }
 
-unfoldable pub synchronizerAt : List ℕ → Layout → ℕ → Synchronizer
-synchronizerAt bytes layout i = let at = placeOf (layout .synchronizers) (layout .«synchronizer_bytes») i in record {
+abbrev pub synchronizerFrom : List ℕ → ℕ → Synchronizer
+synchronizerFrom bytes at = record {
   phase = wordAt bytes at;
   kind = wordAt bytes (at + 4);
   setup = wordAt bytes (at + 8);
@@ -25,10 +25,20 @@ synchronizerAt bytes layout i = let at = placeOf (layout .synchronizers) (layout
   greatest = wordAt bytes (at + 20);
 }
 
-unfoldable pub arcAt : List ℕ → Layout → ℕ → Arc
-arcAt bytes layout i = let at = placeOf (layout .arcs) 16 i in record {
+abbrev pub arcFrom : List ℕ → ℕ → Arc
+arcFrom bytes at = record {
   from = wordAt bytes at;
   to = wordAt bytes (at + 4);
   least = wordAt bytes (at + 8);
   greatest = wordAt bytes (at + 12);
 }
+
+-- record i of its table
+unfoldable pub phaseAt : List ℕ → Layout → ℕ → Phase
+phaseAt bytes layout i = phaseFrom bytes (placeOf (layout .phases) 8 i)
+
+unfoldable pub synchronizerAt : List ℕ → Layout → ℕ → Synchronizer
+synchronizerAt bytes layout i = synchronizerFrom bytes (placeOf (layout .synchronizers) (layout .«synchronizer_bytes») i)
+
+unfoldable pub arcAt : List ℕ → Layout → ℕ → Arc
+arcAt bytes layout i = arcFrom bytes (placeOf (layout .arcs) 16 i)

@@ -3,6 +3,7 @@
 mod bytes;
 mod checks;
 mod kind;
+mod reader;
 mod records;
 mod rules;
 
@@ -13,6 +14,13 @@ pub use kind::Header;
 pub use kind::Image;
 pub use kind::Layout;
 pub use kind::Part;
+pub use reader::FoundArc;
+pub use reader::FoundPhase;
+pub use reader::FoundSynchronizer;
+pub use reader::NextArc;
+pub use reader::NextPhase;
+pub use reader::NextSynchronizer;
+pub use reader::Reader;
 pub use records::Arc;
 pub use records::Phase;
 pub use records::Synchronizer;

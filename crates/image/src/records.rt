@@ -1,10 +1,18 @@
-// One record of a table, by its number. Past the end of the image every field reads 0.
+// One record of a table: at the byte where it starts, and by its number. Past the end of the image every field reads 0.
+// By its number a record is taken from a reader that is made at its place, in a table that ends with it.
 ghost use mathlib.Core.Path.{_≡_};
-ghost use Prim.Native.Nat.{_≤_};
-ghost use Rattle.image.specs.Records.{placeOf, phaseAt, synchronizerAt, arcAt};
+ghost use Prim.Native.Nat.{_+_, _≤_};
+ghost use Rattle.image.specs.Words.{wordAt};
+ghost use Rattle.image.specs.Records.{placeOf, phaseFrom, synchronizerFrom, arcFrom, phaseAt, synchronizerAt, arcAt};
 use crate::bytes::word;
 use crate::kind::Image;
 use crate::kind::Layout;
+use crate::reader::FoundArc;
+use crate::reader::FoundPhase;
+use crate::reader::FoundSynchronizer;
+use crate::reader::first_arc;
+use crate::reader::first_phase;
+use crate::reader::first_synchronizer;
 
 // When a phase closes, and how long it is active before that.
 pub struct Phase {
@@ -36,44 +44,98 @@ fn place(table: u32, size: u32, i: u32) -> usize
     (table as usize) + (size as usize) * (i as usize)
 }
 
+// The field that stands k bytes into the record at a place.
+fn field(bytes: &[u8], at: usize, k: u8) -> u32
+    ensures { λ r. ⌜ r ≡ wordAt (now (bytes .entry)) (at + k) ⌝ }
+{
+    if at < bytes.len() {
+        word(bytes, at + (k as usize))
+    } else {
+        0
+    }
+}
+
 impl Phase {
+    pub(crate) fn at(bytes: &[u8], at: usize) -> Phase
+        ensures { λ r. ⌜ r ≡ phaseFrom (now (bytes .entry)) at ⌝ }
+    {
+        Phase {
+            closing: word(bytes, at),
+            active: field(bytes, at, 4),
+        }
+    }
+
     pub fn read(bytes: &[u8], layout: Layout, i: u32) -> Phase
         ensures { λ r. ⌜ r ≡ phaseAt (now (bytes .entry)) layout i ⌝ }
     {
         let at = place(layout.phases, Image::PHASE_BYTES, i);
-        Phase {
-            closing: word(bytes, at),
-            active: word(bytes, at + 4),
+        match first_phase(bytes, at, at + (Image::PHASE_BYTES as usize)) {
+            FoundPhase::Record(phase) => phase,
+            FoundPhase::End => Phase {
+                closing: 0,
+                active: 0,
+            },
         }
     }
 }
 
 impl Synchronizer {
+    pub(crate) fn at(bytes: &[u8], at: usize) -> Synchronizer
+        ensures { λ r. ⌜ r ≡ synchronizerFrom (now (bytes .entry)) at ⌝ }
+    {
+        Synchronizer {
+            phase: word(bytes, at),
+            kind: field(bytes, at, 4),
+            setup: field(bytes, at, 8),
+            hold: field(bytes, at, 12),
+            least: field(bytes, at, 16),
+            greatest: field(bytes, at, 20),
+        }
+    }
+
     pub fn read(bytes: &[u8], layout: Layout, i: u32) -> Synchronizer
         ensures { λ r. ⌜ r ≡ synchronizerAt (now (bytes .entry)) layout i ⌝ }
     {
-        let at = place(layout.synchronizers, layout.synchronizer_bytes, i);
-        Synchronizer {
-            phase: word(bytes, at),
-            kind: word(bytes, at + 4),
-            setup: word(bytes, at + 8),
-            hold: word(bytes, at + 12),
-            least: word(bytes, at + 16),
-            greatest: word(bytes, at + 20),
+        let size = layout.synchronizer_bytes;
+        let at = place(layout.synchronizers, size, i);
+        match first_synchronizer(bytes, at, size as usize, at + (size as usize)) {
+            FoundSynchronizer::Record(synchronizer) => synchronizer,
+            FoundSynchronizer::End => Synchronizer {
+                phase: 0,
+                kind: 0,
+                setup: 0,
+                hold: 0,
+                least: 0,
+                greatest: 0,
+            },
         }
     }
 }
 
 impl Arc {
+    pub(crate) fn at(bytes: &[u8], at: usize) -> Arc
+        ensures { λ r. ⌜ r ≡ arcFrom (now (bytes .entry)) at ⌝ }
+    {
+        Arc {
+            from: word(bytes, at),
+            to: field(bytes, at, 4),
+            least: field(bytes, at, 8),
+            greatest: field(bytes, at, 12),
+        }
+    }
+
     pub fn read(bytes: &[u8], layout: Layout, i: u32) -> Arc
         ensures { λ r. ⌜ r ≡ arcAt (now (bytes .entry)) layout i ⌝ }
     {
         let at = place(layout.arcs, Image::ARC_BYTES, i);
-        Arc {
-            from: word(bytes, at),
-            to: word(bytes, at + 4),
-            least: word(bytes, at + 8),
-            greatest: word(bytes, at + 12),
+        match first_arc(bytes, at, at + (Image::ARC_BYTES as usize)) {
+            FoundArc::Record(arc) => arc,
+            FoundArc::End => Arc {
+                from: 0,
+                to: 0,
+                least: 0,
+                greatest: 0,
+            },
         }
     }
 }

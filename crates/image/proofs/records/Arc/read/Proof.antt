@@ -1,56 +1,50 @@
--- `Arc::read` reads the fields one by one.
+-- `Arc::read` makes a reader at the record's place, in a table that ends with the record, and takes the record that it hands out.
+use mathlib.Core.Path.{sym, ap, _∙_}
 use borrow.Author.Needs.{needs}
-use Rattle.image.specs.Records.{arcAt}
+use Rattle.image.specs.Records.{arcFrom, arcAt}
+use Rattle.image.proofs.Found.{arcOr, lone-arc}
 use Rattle.image.proofs.records.Arc.read.Statement.{statement}
 use Rattle.image.proofs.records.Arc.read.Tie as tie
 
--- src/records.rt:65:13
 place-requires : tie.Need-place-requires
 place-requires c κs = search needs
 
--- src/records.rt:67:19
-word-requires : tie.Need-word-requires
-word-requires c κs = search needs
+cast-first-arc : tie.Need-cast-first-arc
+cast-first-arc c = search needs
 
--- src/records.rt:68:29
-add-word : tie.Need-add-word
-add-word c = search needs
+add-first-arc : tie.Need-add-first-arc
+add-first-arc c = search needs
 
--- src/records.rt:68:17
-word-requires-2 : tie.Need-word-requires-2
-word-requires-2 c κs = search needs
+first-arc-requires : tie.Need-first-arc-requires
+first-arc-requires c κs = search needs
 
--- src/records.rt:69:32
-add-word-2 : tie.Need-add-word-2
-add-word-2 c = search needs
+enum-known-arc : tie.Need-enum-known-arc
+enum-known-arc c = search needs
 
--- src/records.rt:69:20
-word-requires-3 : tie.Need-word-requires-3
-word-requires-3 c κs = search needs
+enum-told : tie.Need-enum-told
+enum-told c = search needs
 
--- src/records.rt:70:35
-add-word-3 : tie.Need-add-word-3
-add-word-3 c = search needs
-
--- src/records.rt:70:23
-word-requires-4 : tie.Need-word-requires-4
-word-requires-4 c κs = search needs
-
--- src/records.rt:61:5
 returns : tie.Need-returns
 unfolding arcAt
-returns c = cc
+returns c =
+    let bytes = c .before .before .before .before .before .before .args .bytes .now in
+    ap arcOr (sym (c .before .arc .given .1) ∙ c .before .before .before .first-arc .ensures) ∙ lone-arc bytes (c .before .before .before .before .place .result) ∙ ap (arcFrom bytes) (c .before .before .before .before .place .ensures .0)
+
+returns-2 : tie.Need-returns-2
+unfolding arcAt
+returns-2 c =
+    let bytes = c .before .before .before .before .before .args .bytes .now in
+    ap arcOr (sym (c .enum-told .given .1) ∙ c .before .before .first-arc .ensures) ∙ lone-arc bytes (c .before .before .before .place .result) ∙ ap (arcFrom bytes) (c .before .before .before .place .ensures .0)
 
 pub read-spec : {M : Type 1} → statement M
 read-spec =
     tie.close
     (tie.spec
     place-requires
-    word-requires
-    add-word
-    word-requires-2
-    add-word-2
-    word-requires-3
-    add-word-3
-    word-requires-4
-    returns)
+    cast-first-arc
+    add-first-arc
+    first-arc-requires
+    enum-known-arc
+    enum-told
+    returns
+    returns-2)

@@ -1,76 +1,54 @@
--- `Synchronizer::read` reads the fields one by one.
+-- `Synchronizer::read` makes a reader at the record's place, in a table that ends with the record, and takes the record that it hands out.
+use mathlib.Core.Path.{sym, ap, _∙_}
 use borrow.Author.Needs.{needs}
-use Rattle.image.specs.Records.{synchronizerAt}
+use Rattle.image.specs.Records.{synchronizerFrom, synchronizerAt}
+use Rattle.image.proofs.Found.{synchronizerOr, lone-synchronizer}
 use Rattle.image.proofs.records.Synchronizer.read.Statement.{statement}
 use Rattle.image.proofs.records.Synchronizer.read.Tie as tie
 
--- src/records.rt:48:13
 place-requires : tie.Need-place-requires
 place-requires c κs = search needs
 
--- src/records.rt:50:20
-word-requires : tie.Need-word-requires
-word-requires c κs = search needs
+cast-first-synchronizer : tie.Need-cast-first-synchronizer
+cast-first-synchronizer c = search needs
 
--- src/records.rt:51:31
-add-word : tie.Need-add-word
-add-word c = search needs
+cast-first-synchronizer-2 : tie.Need-cast-first-synchronizer-2
+cast-first-synchronizer-2 c = search needs
 
--- src/records.rt:51:19
-word-requires-2 : tie.Need-word-requires-2
-word-requires-2 c κs = search needs
+add-first-synchronizer : tie.Need-add-first-synchronizer
+add-first-synchronizer c = search needs
 
--- src/records.rt:52:32
-add-word-2 : tie.Need-add-word-2
-add-word-2 c = search needs
+first-synchronizer-requires : tie.Need-first-synchronizer-requires
+first-synchronizer-requires c κs = search needs
 
--- src/records.rt:52:20
-word-requires-3 : tie.Need-word-requires-3
-word-requires-3 c κs = search needs
+enum-known-synchronizer : tie.Need-enum-known-synchronizer
+enum-known-synchronizer c = search needs
 
--- src/records.rt:53:31
-add-word-3 : tie.Need-add-word-3
-add-word-3 c = search needs
+enum-told : tie.Need-enum-told
+enum-told c = search needs
 
--- src/records.rt:53:19
-word-requires-4 : tie.Need-word-requires-4
-word-requires-4 c κs = search needs
-
--- src/records.rt:54:32
-add-word-4 : tie.Need-add-word-4
-add-word-4 c = search needs
-
--- src/records.rt:54:20
-word-requires-5 : tie.Need-word-requires-5
-word-requires-5 c κs = search needs
-
--- src/records.rt:55:35
-add-word-5 : tie.Need-add-word-5
-add-word-5 c = search needs
-
--- src/records.rt:55:23
-word-requires-6 : tie.Need-word-requires-6
-word-requires-6 c κs = search needs
-
--- src/records.rt:44:5
 returns : tie.Need-returns
 unfolding synchronizerAt
-returns c = cc
+returns c =
+    let bytes = c .before .before .before .before .before .before .args .bytes .now in
+    ap synchronizerOr (sym (c .before .synchronizer .given .1) ∙ c .before .before .before .first-synchronizer .ensures) ∙ lone-synchronizer bytes (c .before .before .before .before .place .result) (c .before .before .before .before .before .before .args .layout .«synchronizer_bytes») ∙ ap (synchronizerFrom bytes) (c .before .before .before .before .place .ensures .0)
+
+returns-2 : tie.Need-returns-2
+unfolding synchronizerAt
+returns-2 c =
+    let bytes = c .before .before .before .before .before .args .bytes .now in
+    ap synchronizerOr (sym (c .enum-told .given .1) ∙ c .before .before .first-synchronizer .ensures) ∙ lone-synchronizer bytes (c .before .before .before .place .result) (c .before .before .before .before .before .args .layout .«synchronizer_bytes») ∙ ap (synchronizerFrom bytes) (c .before .before .before .place .ensures .0)
 
 pub read-spec : {M : Type 1} → statement M
 read-spec =
     tie.close
     (tie.spec
     place-requires
-    word-requires
-    add-word
-    word-requires-2
-    add-word-2
-    word-requires-3
-    add-word-3
-    word-requires-4
-    add-word-4
-    word-requires-5
-    add-word-5
-    word-requires-6
-    returns)
+    cast-first-synchronizer
+    cast-first-synchronizer-2
+    add-first-synchronizer
+    first-synchronizer-requires
+    enum-known-synchronizer
+    enum-told
+    returns
+    returns-2)
