@@ -13,7 +13,7 @@ import pathlib
 import struct
 import sys
 
-from cases import GOOD, build, judge
+from cases import CASES, GOOD, judge, known_circuits
 
 MARK = 2**63 - 1
 
@@ -107,28 +107,10 @@ def report(image):
 
 
 def circuits():
-    """Document 01, "Circuits with known numbers"."""
-
-    def two_latches(delays, first, second):
-        latches = [(0, 0, 10, 5) + delays, (1, 0, 10, 5) + delays]
-        return build(100, [(50, 40), (100, 40)], latches, [(1, 0) + first, (0, 1) + second])
-
-    def flip_flops(window):
-        return build(100, [(100, 50)], [(0, 1, 10, 10, 8, 8)] * 2, [(0, 1) + window])
-
-    p1 = two_latches((5, 10), (10, 20), (20, 60))
-    return {
-        "p1": p1,
-        "p2": two_latches((5, 10), (10, 20), (20, 61)),
-        "p3": two_latches((5, 10), (10, 10), (20, 70)),
-        "p4": two_latches((5, 10), (0, 0), (20, 80)),
-        "p5": two_latches((10, 10), (20, 20), (60, 60)),
-        "p6": p1,
-        "p7": flip_flops((2, 80)),
-        "p8": flip_flops((1, 80)),
-        "p9": build(100, [(100, 40)], [(0, 0, 0, 0, 0, 0)] * 3, [(0, 1, 100, 130), (1, 2, 100, 130)]),
-        "p10": build(100, [(100, 40)], [], []),
-    }
+    """P1 to P10, as tests/cases.py makes them."""
+    CASES.clear()
+    known_circuits()
+    return {name: image for name, _, image in CASES if name != "base"}
 
 
 PRINTED = {
