@@ -2,6 +2,7 @@
 pub mod Found
 pub mod Handing
 pub mod Held
+pub mod Keys
 pub mod Lowest
 pub mod Only
 pub mod Orders

@@ -6,6 +6,7 @@ use Prim.Native.Nat.{ℕ, zero, suc, _≤_, _<_}
 use native.Mathlib.Omega.{arith}
 use native.Mathlib.Decide.{decLt}
 use Rattle.image.specs.Rules.{lowestOf}
+use Rattle.image.proofs.Tests.{false-true}
 
 pub record Lowest (bad : ℕ → Bool) (n i : ℕ) : Type 0 where
   pub within : i ≤ n
@@ -35,10 +36,7 @@ lowest-is bad (suc n) = go (bad zero) refl (lowestOf (λ i. bad (suc i)) n) (low
 
 module _ (bad : ℕ → Bool) (n : ℕ) where
   not-before : {i j : ℕ} → Lowest bad n i → Lowest bad n j → i < j → ⊥
-  not-before {i} {j} h k l =
-      let z : false ≡ true = sym (k .passed i l) ∙ h .fails (omega (arith, k .within)) in
-      let y : _≡_ {A = ℕ} 0 1 = cc in
-      omega arith
+  not-before {i} {j} h k l = false-true (sym (k .passed i l) ∙ h .fails (omega (arith, k .within)))
 
   pub lowest-only : {i j : ℕ} → Lowest bad n i → Lowest bad n j → i ≡ j
   lowest-only {i} {j} h k = elim (decLt i j) [
@@ -48,3 +46,6 @@ module _ (bad : ℕ → Bool) (n : ℕ) where
 
   pub lowest-eq : {i : ℕ} → Lowest bad n i → i ≡ lowestOf bad n
   lowest-eq h = lowest-only h (lowest-is bad n)
+
+  pub lowest-none : ((j : ℕ) → j < n → bad j ≡ false) → lowestOf bad n ≡ n
+  lowest-none h = sym (lowest-eq {i = n} (record { within = omega arith; passed = h; fails = λ l. let z : ⊥ = omega arith in absurd z }))

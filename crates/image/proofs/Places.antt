@@ -24,3 +24,6 @@ within-left at size end = left-is at size end (leb size (end - at)) refl
 
 pub past-fails : (at size end : ℕ) → end < at → leb (at + size) end ≡ false
 past-fails at size end h = lt-leb (at + size) end (omega arith)
+
+pub fits-within : {b : Bool} (at size end : ℕ) → b ≡ leb (at + size) end → b ≡ true → at + size ≤ end
+fits-within at size end h taken = leb-true (at + size) end (cc (h, taken))

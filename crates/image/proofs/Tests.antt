@@ -3,8 +3,12 @@ use mathlib.Core.Path.{_≡_, refl}
 use mathlib.Core.Bool.{Bool, true, false, _||_, _&&_, not}
 use mathlib.Core.Logic.{_↔_, _⊎_, inl, inr}
 use Prim.Native.Nat.{ℕ, _<_, _≤_}
+use native.Mathlib.Omega.{arith}
 use lib.Dec.{ltb, leb, eqb}
 use borrow.Author.Tests.{ltb-true, ltb-false, leb-false, eqb-true, not-false, lt-ltb, le-ltb, lt-leb, eq-eqb}
+
+pub false-true : false ≡ true → ⊥
+false-true h = let z : _≡_ {A = ℕ} 0 1 = cc in omega arith
 
 pub ltb-iff : (a b : ℕ) → ltb a b ≡ false ↔ b ≤ a
 ltb-iff a b = (ltb-false a b, le-ltb a b)

@@ -18,7 +18,7 @@ use Rattle.image.specs.declared.records.Arc.{Arc}
 use Rattle.image.specs.declared.rules.Rule.the-variants as rule
 use Rattle.image.specs.declared.checks.Checked.{Checked}
 use Rattle.image.specs.declared.checks.Checked.the-variants.{Good}
-use Rattle.image.proofs.Lowest.{lowest-is, lowest-eq}
+use Rattle.image.proofs.Lowest.{lowest-is, lowest-none}
 use Rattle.image.proofs.Tests.{ltb-iff, leb-iff, differs-iff, below-iff, same-iff, or-iff, and-iff, either-iff, both-iff, not-iff}
 
 good-iff : (b : Bool) (rule culprit : ℕ) (rest : Checked) (x : Image) → (refuse b rule culprit rest ≡ Good x) ↔ ((b ≡ false) × (rest ≡ Good x))
@@ -26,10 +26,7 @@ good-iff true rule culprit rest x = (λ h. (cc, cc), λ h. cc)
 good-iff false rule culprit rest x = (λ h. (refl, h), λ h. h .1)
 
 none-iff : (bad : ℕ → Bool) (n : ℕ) → (ltb (lowestOf bad n) n ≡ false) ↔ ((i : ℕ) → i < n → bad i ≡ false)
-none-iff bad n = (λ h i l. lowest-is bad n .passed i (omega (arith, ltb-false (lowestOf bad n) n h)), λ h. le-ltb _ _ (none h))
-  where
-    none : ((i : ℕ) → i < n → bad i ≡ false) → n ≤ lowestOf bad n
-    none h = omega (arith, lowest-eq bad n {i = n} (record { within = omega arith; passed = h; fails = λ l. let z : ⊥ = omega arith in absurd z }))
+none-iff bad n = (λ h i l. lowest-is bad n .passed i (omega (arith, ltb-false (lowestOf bad n) n h)), λ h. le-ltb (lowestOf bad n) n (omega (arith, lowest-none bad n h)))
 
 back : (i : ℕ) → suc i - 1 ≡ i
 back i = omega arith

@@ -1,6 +1,10 @@
 // Words of four bytes, the least significant first. Past the end of the image every byte reads 0.
+// A word that lies whole within the image is read without asking of each byte; nearly all do.
 ghost use mathlib.Core.Path.{_≡_};
+ghost use Prim.Native.Nat.{_+_, _≤_};
+ghost use lib.ListN.{length};
 ghost use Rattle.image.specs.Words.{byteAt, wordAt, little};
+use crate::reader::fits;
 
 fn byte(bytes: &[u8], at: usize) -> u8
     ensures { λ r. ⌜ r ≡ byteAt (now (bytes .entry)) at ⌝ }
@@ -14,7 +18,16 @@ fn from_little(a: u8, b: u8, c: u8, d: u8) -> u32
     (a as u32) + 256 * (b as u32) + 65536 * (c as u32) + 16777216 * (d as u32)
 }
 
-pub fn word(bytes: &[u8], at: usize) -> u32
+// The word at a place that has four bytes.
+pub(crate) fn whole(bytes: &[u8], at: usize) -> u32
+    requires { ⌜ at + 4 ≤ length (now bytes) ⌝ }
+    ensures { λ r. ⌜ r ≡ wordAt (now (bytes .entry)) at ⌝ }
+{
+    from_little(bytes[at], bytes[at + 1], bytes[at + 2], bytes[at + 3])
+}
+
+// The word at any place: byte by byte.
+fn cut(bytes: &[u8], at: usize) -> u32
     ensures { λ r. ⌜ r ≡ wordAt (now (bytes .entry)) at ⌝ }
 {
     if at < bytes.len() {
@@ -26,5 +39,15 @@ pub fn word(bytes: &[u8], at: usize) -> u32
         )
     } else {
         0
+    }
+}
+
+pub fn word(bytes: &[u8], at: usize) -> u32
+    ensures { λ r. ⌜ r ≡ wordAt (now (bytes .entry)) at ⌝ }
+{
+    if fits(at, 4, bytes.len()) {
+        whole(bytes, at)
+    } else {
+        cut(bytes, at)
     }
 }

@@ -4,10 +4,12 @@ ghost use Rattle.image.specs.Checks.{checkOf, recordsOf};
 use crate::kind::Header;
 use crate::kind::Image;
 use crate::rules::Rule;
+use crate::rules::arcs_good;
 use crate::rules::bad_counts;
 use crate::rules::bad_cycle;
 use crate::rules::bad_layout;
 use crate::rules::lowest;
+use crate::rules::synchronizers_good;
 
 // A good image, with what it says of itself; or document 01's number of the rule that refuses it, with the lowest record
 // at fault, which is 0 for rules 1 to 5.
@@ -23,6 +25,10 @@ fn check_records(bytes: &[u8], image: Image) -> Checked
     let phase = lowest(bytes, image, Rule::Phases, image.phases);
     if phase < image.phases {
         return Checked::Refused(6, phase);
+    }
+    // A good image ends here. Of another, the searches below find what it breaks.
+    if synchronizers_good(bytes, image) & arcs_good(bytes, image) {
+        return Checked::Good(image);
     }
     let synchronizer = lowest(bytes, image, Rule::Synchronizers, image.synchronizers);
     if synchronizer < image.synchronizers {

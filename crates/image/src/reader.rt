@@ -50,12 +50,12 @@ pub struct NextArc<'a> {
     pub found: FoundArc,
 }
 
-const PHASE: usize = Image::PHASE_BYTES as usize;
+pub(crate) const PHASE: usize = Image::PHASE_BYTES as usize;
 
-const ARC: usize = Image::ARC_BYTES as usize;
+pub(crate) const ARC: usize = Image::ARC_BYTES as usize;
 
 // Does a record of that size end no later than the table?
-fn fits(at: usize, size: usize, end: usize) -> bool
+pub(crate) fn fits(at: usize, size: usize, end: usize) -> bool
     ensures { λ r. ⌜ r ≡ fitsOf at size end ⌝ }
 {
     if at <= end { size <= end - at } else { false }

@@ -2,17 +2,22 @@
 // By its number a record is taken from a reader that is made at its place, in a table that ends with it.
 ghost use mathlib.Core.Path.{_≡_};
 ghost use Prim.Native.Nat.{_+_, _≤_};
+ghost use lib.ListN.{length};
 ghost use Rattle.image.specs.Words.{wordAt};
 ghost use Rattle.image.specs.Records.{placeOf, phaseFrom, synchronizerFrom, arcFrom, phaseAt, synchronizerAt, arcAt};
+use crate::bytes::whole;
 use crate::bytes::word;
 use crate::kind::Image;
 use crate::kind::Layout;
+use crate::reader::ARC;
 use crate::reader::FoundArc;
 use crate::reader::FoundPhase;
 use crate::reader::FoundSynchronizer;
+use crate::reader::PHASE;
 use crate::reader::first_arc;
 use crate::reader::first_phase;
 use crate::reader::first_synchronizer;
+use crate::reader::fits;
 
 // When a phase closes, and how long it is active before that.
 pub struct Phase {
@@ -36,8 +41,11 @@ pub struct Arc {
     pub greatest: u32,
 }
 
+// The bytes that the six fields of a synchronizer take. The layout may give its record more.
+const SYNCHRONIZER: usize = 24;
+
 // The byte at which a record starts. Numbers of 32 bits leave room for the record's own bytes behind it.
-fn place(table: u32, size: u32, i: u32) -> usize
+pub(crate) fn place(table: u32, size: u32, i: u32) -> usize
     ensures { λ r. ⌜ r ≡ placeOf table size i ⌝ }
     ensures { λ r. ⌜ r ≤ 18446744069414584320 ⌝ }
 {
@@ -59,9 +67,16 @@ impl Phase {
     pub(crate) fn at(bytes: &[u8], at: usize) -> Phase
         ensures { λ r. ⌜ r ≡ phaseFrom (now (bytes .entry)) at ⌝ }
     {
-        Phase {
-            closing: word(bytes, at),
-            active: field(bytes, at, 4),
+        if fits(at, PHASE, bytes.len()) {
+            Phase {
+                closing: whole(bytes, at),
+                active: whole(bytes, at + 4),
+            }
+        } else {
+            Phase {
+                closing: word(bytes, at),
+                active: field(bytes, at, 4),
+            }
         }
     }
 
@@ -80,16 +95,35 @@ impl Phase {
 }
 
 impl Synchronizer {
-    pub(crate) fn at(bytes: &[u8], at: usize) -> Synchronizer
+    // The synchronizer at a place that has all its bytes.
+    pub(crate) fn whole(bytes: &[u8], at: usize) -> Synchronizer
+        requires { ⌜ at + 24 ≤ length (now bytes) ⌝ }
         ensures { λ r. ⌜ r ≡ synchronizerFrom (now (bytes .entry)) at ⌝ }
     {
         Synchronizer {
-            phase: word(bytes, at),
-            kind: field(bytes, at, 4),
-            setup: field(bytes, at, 8),
-            hold: field(bytes, at, 12),
-            least: field(bytes, at, 16),
-            greatest: field(bytes, at, 20),
+            phase: whole(bytes, at),
+            kind: whole(bytes, at + 4),
+            setup: whole(bytes, at + 8),
+            hold: whole(bytes, at + 12),
+            least: whole(bytes, at + 16),
+            greatest: whole(bytes, at + 20),
+        }
+    }
+
+    pub(crate) fn at(bytes: &[u8], at: usize) -> Synchronizer
+        ensures { λ r. ⌜ r ≡ synchronizerFrom (now (bytes .entry)) at ⌝ }
+    {
+        if fits(at, SYNCHRONIZER, bytes.len()) {
+            Synchronizer::whole(bytes, at)
+        } else {
+            Synchronizer {
+                phase: word(bytes, at),
+                kind: field(bytes, at, 4),
+                setup: field(bytes, at, 8),
+                hold: field(bytes, at, 12),
+                least: field(bytes, at, 16),
+                greatest: field(bytes, at, 20),
+            }
         }
     }
 
@@ -113,14 +147,31 @@ impl Synchronizer {
 }
 
 impl Arc {
-    pub(crate) fn at(bytes: &[u8], at: usize) -> Arc
+    // The arc at a place that has all its bytes.
+    pub(crate) fn whole(bytes: &[u8], at: usize) -> Arc
+        requires { ⌜ at + 16 ≤ length (now bytes) ⌝ }
         ensures { λ r. ⌜ r ≡ arcFrom (now (bytes .entry)) at ⌝ }
     {
         Arc {
-            from: word(bytes, at),
-            to: field(bytes, at, 4),
-            least: field(bytes, at, 8),
-            greatest: field(bytes, at, 12),
+            from: whole(bytes, at),
+            to: whole(bytes, at + 4),
+            least: whole(bytes, at + 8),
+            greatest: whole(bytes, at + 12),
+        }
+    }
+
+    pub(crate) fn at(bytes: &[u8], at: usize) -> Arc
+        ensures { λ r. ⌜ r ≡ arcFrom (now (bytes .entry)) at ⌝ }
+    {
+        if fits(at, ARC, bytes.len()) {
+            Arc::whole(bytes, at)
+        } else {
+            Arc {
+                from: word(bytes, at),
+                to: field(bytes, at, 4),
+                least: field(bytes, at, 8),
+                greatest: field(bytes, at, 12),
+            }
         }
     }
 

@@ -1,7 +1,11 @@
 // Document 01's rules 3 to 9, as tests. Each gives what the definition of the same name in specs/Rules.antt gives.
 // The tests of one rule are joined by `|` and `&`, which ask all of them: the code is then one expression, as the rule is.
 ghost use mathlib.Core.Path.{_≡_};
+ghost use mathlib.Core.Bool.{true, _||_};
 ghost use Prim.Native.Nat.{_-_};
+ghost use lib.Dec.{ltb, leb};
+ghost use Rattle.image.specs.Kind.{longestDelay};
+ghost use Rattle.image.specs.declared.rules.Rule.the-variants.{Synchronizers, Arcs, Order};
 ghost use Rattle.image.specs.Rules.{badCycle, badCounts, badLayout, badPhase, badSynchronizer, badArc, badOrder, breaksOf, lowestOf};
 use crate::kind::Header;
 use crate::kind::Image;
@@ -9,6 +13,7 @@ use crate::kind::Part;
 use crate::records::Arc;
 use crate::records::Phase;
 use crate::records::Synchronizer;
+use crate::records::place;
 
 // The rules that ask something of every record of a table.
 pub enum Rule {
@@ -64,10 +69,10 @@ fn bad_phase(bytes: &[u8], image: Image, i: u32) -> bool
         | (((i as u64) + 1 == (image.phases as u64)) & (phase.closing != image.cycle))
 }
 
-fn bad_synchronizer(bytes: &[u8], image: Image, i: u32) -> bool
-    ensures { λ r. ⌜ r ≡ badSynchronizer (now (bytes .entry)) image i ⌝ }
+// Rule 7 of a synchronizer that has been read.
+fn bad_window(s: Synchronizer, image: Image) -> bool
+    ensures { λ r. ⌜ r ≡ (leb (image .phases) (s .phase) || ltb 1 (s .kind) || ltb (image .cycle) (s .setup) || ltb (image .cycle) (s .hold) || ltb (s .greatest) (s .least) || ltb longestDelay (s .greatest)) ⌝ }
 {
-    let s = Synchronizer::read(bytes, image.layout, i);
     (image.phases <= s.phase)
         | (1 < s.kind)
         | (image.cycle < s.setup)
@@ -76,14 +81,23 @@ fn bad_synchronizer(bytes: &[u8], image: Image, i: u32) -> bool
         | (Image::LONGEST_DELAY < s.greatest)
 }
 
+fn bad_synchronizer(bytes: &[u8], image: Image, i: u32) -> bool
+    ensures { λ r. ⌜ r ≡ badSynchronizer (now (bytes .entry)) image i ⌝ }
+{
+    bad_window(Synchronizer::read(bytes, image.layout, i), image)
+}
+
+// Rule 8 of an arc that has been read, where there are l synchronizers.
+fn bad_fields(a: Arc, l: u32) -> bool
+    ensures { λ r. ⌜ r ≡ (leb l (a .from) || leb l (a .to) || ltb (a .greatest) (a .least) || ltb longestDelay (a .greatest)) ⌝ }
+{
+    (l <= a.from) | (l <= a.to) | (a.greatest < a.least) | (Image::LONGEST_DELAY < a.greatest)
+}
+
 fn bad_arc(bytes: &[u8], image: Image, i: u32) -> bool
     ensures { λ r. ⌜ r ≡ badArc (now (bytes .entry)) image i ⌝ }
 {
-    let a = Arc::read(bytes, image.layout, i);
-    (image.synchronizers <= a.from)
-        | (image.synchronizers <= a.to)
-        | (a.greatest < a.least)
-        | (Image::LONGEST_DELAY < a.greatest)
+    bad_fields(Arc::read(bytes, image.layout, i), image.synchronizers)
 }
 
 fn bad_order(bytes: &[u8], image: Image, i: u32) -> bool
@@ -118,4 +132,53 @@ pub(crate) fn lowest(bytes: &[u8], image: Image, rule: Rule, count: u32) -> u32
         i += 1;
     }
     i
+}
+
+// Is it plain that no synchronizer breaks rule 7? A good image is told by this and `arcs_good`, with one look at each record. Where the
+// answer is no, `lowest` finds the rule and the record, if there is one: a table that does not lie within the image, or that has records of
+// another size, is not looked at here, so that no record needs to be asked where it ends.
+pub(crate) fn synchronizers_good(bytes: &[u8], image: Image) -> bool
+    ensures { λ r. ⌜ (r ≡ true → lowestOf (breaksOf (now (bytes .entry)) image Synchronizers) (image .synchronizers) ≡ image .synchronizers) ⌝ }
+{
+    let first = image.layout.synchronizers;
+    let many = image.synchronizers;
+    if image.layout.synchronizer_bytes != Image::SYNCHRONIZER_BYTES {
+        return false;
+    }
+    if bytes.len() < place(first, Image::SYNCHRONIZER_BYTES, many) {
+        return false;
+    }
+    let mut i: u32 = 0;
+    while i < many {
+        let s = Synchronizer::whole(bytes, place(first, Image::SYNCHRONIZER_BYTES, i));
+        if bad_window(s, image) {
+            return false;
+        }
+        i += 1;
+    }
+    true
+}
+
+// Is it plain that no arc breaks rule 8 or rule 9? Each arc is read once, and asked both. Of the arc before, its key is kept: one number,
+// in which `to` weighs more than any `from`, so that arcs are in order where their keys rise. No key may be below `next`.
+pub(crate) fn arcs_good(bytes: &[u8], image: Image) -> bool
+    ensures { λ r. ⌜ (r ≡ true → (lowestOf (breaksOf (now (bytes .entry)) image Arcs) (image .arcs) ≡ image .arcs) × (lowestOf (breaksOf (now (bytes .entry)) image Order) (image .arcs) ≡ image .arcs)) ⌝ }
+{
+    let table = image.layout.arcs;
+    let count = image.arcs;
+    if bytes.len() < place(table, Image::ARC_BYTES, count) {
+        return false;
+    }
+    let mut next: u64 = 0;
+    let mut i: u32 = 0;
+    while i < count {
+        let arc = Arc::whole(bytes, place(table, Image::ARC_BYTES, i));
+        let key = 4_294_967_296 * (arc.to as u64) + (arc.from as u64);
+        if bad_fields(arc, image.synchronizers) | (key < next) {
+            return false;
+        }
+        next = key + 1;
+        i += 1;
+    }
+    true
 }

@@ -1,63 +1,23 @@
--- `word` puts four bytes together; where the first lies past the end, all four read 0.
-use mathlib.Core.Path.{sym}
+-- `word` reads the same word, whole where it lies within the image.
 use borrow.Author.Needs.{needs}
-use Rattle.image.specs.Words.{wordAt}
-use Rattle.image.proofs.Words.{word-past}
+use Rattle.image.proofs.Places.{fits-within}
 use Rattle.image.proofs.bytes.word.Statement.{statement}
 use Rattle.image.proofs.bytes.word.Tie as tie
 
--- src/bytes.rt:22:13
-shared-slice-read-from-little : tie.Need-shared-slice-read-from-little
-shared-slice-read-from-little c = search needs
+fits-requires : tie.Need-fits-requires
+fits-requires c κs = search needs
 
--- src/bytes.rt:23:25
-add-byte : tie.Need-add-byte
-add-byte c = search needs
+whole-requires : tie.Need-whole-requires
+whole-requires c κs = fits-within _ _ _ (c .before .fits2 .ensures) (c .if1 .taken)
 
--- src/bytes.rt:23:13
-byte-requires : tie.Need-byte-requires
-byte-requires c κs = search needs
+cut-requires : tie.Need-cut-requires
+cut-requires c κs = search needs
 
--- src/bytes.rt:24:25
-add-byte-2 : tie.Need-add-byte-2
-add-byte-2 c = search needs
-
--- src/bytes.rt:24:13
-byte-requires-2 : tie.Need-byte-requires-2
-byte-requires-2 c κs = search needs
-
--- src/bytes.rt:25:25
-add-byte-3 : tie.Need-add-byte-3
-add-byte-3 c = search needs
-
--- src/bytes.rt:25:13
-byte-requires-3 : tie.Need-byte-requires-3
-byte-requires-3 c κs = search needs
-
--- src/bytes.rt:21:9
-from-little-requires : tie.Need-from-little-requires
-from-little-requires c κs = search needs
-
--- src/bytes.rt:17:1
 returns : tie.Need-returns
-unfolding wordAt
-returns c = cc
+returns c = search needs
 
--- src/bytes.rt:17:1
 returns-2 : tie.Need-returns-2
-returns-2 c = let a = c .before .before .args in sym (word-past (a .bytes .now) (a .at) (c .if1 .left))
+returns-2 c = search needs
 
 pub word-spec : {M : Type 1} → statement M
-word-spec =
-    tie.close
-    (tie.spec
-    shared-slice-read-from-little
-    add-byte
-    byte-requires
-    add-byte-2
-    byte-requires-2
-    add-byte-3
-    byte-requires-3
-    from-little-requires
-    returns
-    returns-2)
+word-spec = tie.close (tie.spec fits-requires whole-requires cut-requires returns returns-2)

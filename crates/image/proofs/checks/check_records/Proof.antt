@@ -1,6 +1,12 @@
--- `check_records` asks the rules in their order: the first that finds a record decides.
+-- `check_records` asks the rules in their order: the first that finds a record decides. Where all are plainly good, none is found.
+use mathlib.Core.Path.{_≡_}
+use native.Mathlib.Nat.{le-refl}
 use borrow.Author.Tests.{lt-ltb, le-ltb}
-use Rattle.image.specs.Checks.{recordsOf}
+use Rattle.image.specs.Rules.{breaksOf}
+use Rattle.image.specs.Checks.{recordsOf, refuseAt}
+use Rattle.image.specs.declared.rules.Rule.the-variants.{Synchronizers, Arcs, Order}
+use Rattle.image.specs.declared.checks.Checked.the-variants.{Good}
+use Rattle.image.proofs.Tests.{both-iff}
 use borrow.Author.Needs.{needs}
 use Rattle.image.proofs.checks.check_records.Statement.{statement}
 use Rattle.image.proofs.checks.check_records.Tie as tie
@@ -12,30 +18,46 @@ returns : tie.Need-returns
 unfolding recordsOf
 returns c = rw (← c .before .before .lowest .ensures, lt-ltb _ _ (c .if1 .taken))
 
+-- where no phase is at fault, the other records decide
+after-phases : (c : tie.Else1) → (let bytes = c .before .before .before .before .args .bytes .now in let image = c .before .before .before .before .args .image in
+    recordsOf bytes image ≡ refuseAt (breaksOf bytes image Synchronizers) (image .synchronizers) 7 (refuseAt (breaksOf bytes image Arcs) (image .arcs) 8 (refuseAt (breaksOf bytes image Order) (image .arcs) 9 (Good image))))
+unfolding recordsOf
+after-phases c = rw (← c .before .before .lowest .ensures, le-ltb _ _ (c .if1 .left))
+
+synchronizers-good-requires : tie.Need-synchronizers-good-requires
+synchronizers-good-requires c κs = search needs
+
+arcs-good-requires : tie.Need-arcs-good-requires
+arcs-good-requires c κs = search needs
+
+returns-2 : tie.Need-returns-2
+returns-2 c =
+    let image = c .before .before .before .before .before .before .before .args .image in
+    let both = both-iff _ _ (λ h. h, λ h. h) (λ h. h, λ h. h) .0 (c .if2 .taken) in
+    let synchronizers = c .before .before .synchronizers-good .ensures (both .0) in
+    let arcs = c .before .arcs-good .ensures (both .1) in
+    rw (after-phases (c .before .before .before), synchronizers, le-ltb _ _ (le-refl (image .synchronizers)), arcs .0, arcs .1, le-ltb _ _ (le-refl (image .arcs)))
+
 lowest-requires-2 : tie.Need-lowest-requires-2
 lowest-requires-2 c κs = search needs
 
-returns-2 : tie.Need-returns-2
-unfolding recordsOf
-returns-2 c = rw (← c .before .before .before .before .before .lowest .ensures, le-ltb _ _ (c .before .before .before .if1 .left), ← c .before .before .lowest2 .ensures, lt-ltb _ _ (c .if2 .taken))
+returns-3 : tie.Need-returns-3
+returns-3 c = rw (after-phases (c .before .before .before .before .before .before), ← c .before .before .lowest2 .ensures, lt-ltb _ _ (c .if3 .taken))
 
 lowest-requires-3 : tie.Need-lowest-requires-3
 lowest-requires-3 c κs = search needs
 
-returns-3 : tie.Need-returns-3
-unfolding recordsOf
-returns-3 c = rw (← c .before .before .before .before .before .before .before .before .lowest .ensures, le-ltb _ _ (c .before .before .before .before .before .before .if1 .left), ← c .before .before .before .before .before .lowest2 .ensures, le-ltb _ _ (c .before .before .before .if2 .left), ← c .before .before .lowest3 .ensures, lt-ltb _ _ (c .if3 .taken))
+returns-4 : tie.Need-returns-4
+returns-4 c = rw (after-phases (c .before .before .before .before .before .before .before .before .before), ← c .before .before .before .before .before .lowest2 .ensures, le-ltb _ _ (c .before .before .before .if3 .left), ← c .before .before .lowest3 .ensures, lt-ltb _ _ (c .if4 .taken))
 
 lowest-requires-4 : tie.Need-lowest-requires-4
 lowest-requires-4 c κs = search needs
 
-returns-4 : tie.Need-returns-4
-unfolding recordsOf
-returns-4 c = rw (← c .before .before .before .before .before .before .before .before .before .before .before .lowest .ensures, le-ltb _ _ (c .before .before .before .before .before .before .before .before .before .if1 .left), ← c .before .before .before .before .before .before .before .before .lowest2 .ensures, le-ltb _ _ (c .before .before .before .before .before .before .if2 .left), ← c .before .before .before .before .before .lowest3 .ensures, le-ltb _ _ (c .before .before .before .if3 .left), ← c .before .before .lowest4 .ensures, lt-ltb _ _ (c .if4 .taken))
-
 returns-5 : tie.Need-returns-5
-unfolding recordsOf
-returns-5 c = rw (← c .before .before .before .before .before .before .before .before .before .before .before .lowest .ensures, le-ltb _ _ (c .before .before .before .before .before .before .before .before .before .if1 .left), ← c .before .before .before .before .before .before .before .before .lowest2 .ensures, le-ltb _ _ (c .before .before .before .before .before .before .if2 .left), ← c .before .before .before .before .before .lowest3 .ensures, le-ltb _ _ (c .before .before .before .if3 .left), ← c .before .before .lowest4 .ensures, le-ltb _ _ (c .if4 .left))
+returns-5 c = rw (after-phases (c .before .before .before .before .before .before .before .before .before .before .before .before), ← c .before .before .before .before .before .before .before .before .lowest2 .ensures, le-ltb _ _ (c .before .before .before .before .before .before .if3 .left), ← c .before .before .before .before .before .lowest3 .ensures, le-ltb _ _ (c .before .before .before .if4 .left), ← c .before .before .lowest4 .ensures, lt-ltb _ _ (c .if5 .taken))
+
+returns-6 : tie.Need-returns-6
+returns-6 c = rw (after-phases (c .before .before .before .before .before .before .before .before .before .before .before .before), ← c .before .before .before .before .before .before .before .before .lowest2 .ensures, le-ltb _ _ (c .before .before .before .before .before .before .if3 .left), ← c .before .before .before .before .before .lowest3 .ensures, le-ltb _ _ (c .before .before .before .if4 .left), ← c .before .before .lowest4 .ensures, le-ltb _ _ (c .if5 .left))
 
 pub check-records-spec : {M : Type 1} → statement M
 check-records-spec =
@@ -43,10 +65,13 @@ check-records-spec =
     (tie.spec
     lowest-requires
     returns
-    lowest-requires-2
+    synchronizers-good-requires
+    arcs-good-requires
     returns-2
-    lowest-requires-3
+    lowest-requires-2
     returns-3
-    lowest-requires-4
+    lowest-requires-3
     returns-4
-    returns-5)
+    lowest-requires-4
+    returns-5
+    returns-6)

@@ -1,7 +1,15 @@
--- `Synchronizer::at` reads the fields one by one.
+-- `Synchronizer::at` reads the record whole where it lies within the image, and field by field elsewhere.
+use lib.ListN.{length}
 use borrow.Author.Needs.{needs}
+use Rattle.image.proofs.Places.{fits-within}
 use Rattle.image.proofs.records.Synchronizer.at.Statement.{statement}
 use Rattle.image.proofs.records.Synchronizer.at.Tie as tie
+
+fits-requires : tie.Need-fits-requires
+fits-requires c κs = search needs
+
+whole-requires : tie.Need-whole-requires
+whole-requires c κs = fits-within (c .before .before .before .args .at) 24 (length (c .before .before .before .args .bytes .now)) (c .before .fits2 .ensures) (c .if1 .taken)
 
 word-requires : tie.Need-word-requires
 word-requires c κs = search needs
@@ -22,7 +30,22 @@ field-requires-5 : tie.Need-field-requires-5
 field-requires-5 c κs = search needs
 
 returns : tie.Need-returns
-returns c = cc
+returns c = search needs
+
+returns-2 : tie.Need-returns-2
+returns-2 c = cc
 
 pub at-spec : {M : Type 1} → statement M
-at-spec = tie.close (tie.spec word-requires field-requires field-requires-2 field-requires-3 field-requires-4 field-requires-5 returns)
+at-spec =
+    tie.close
+    (tie.spec
+    fits-requires
+    whole-requires
+    word-requires
+    field-requires
+    field-requires-2
+    field-requires-3
+    field-requires-4
+    field-requires-5
+    returns
+    returns-2)
