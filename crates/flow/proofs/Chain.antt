@@ -2,10 +2,9 @@
 -- its source rose in the round before: so a chain of arcs goes back to the first round. It has more places than there are nodes,
 -- so a node comes twice. From the one place to the other the walk is closed, its nodes are distinct, and it adds to the time:
 -- the rounds rose by no more than its gain. It may be started at any of its nodes.
-use mathlib.Core.Path.{_≡_, refl, sym, ap}
+use mathlib.Core.Path.{_≡_, refl, sym}
 use mathlib.Core.Bool.{Bool, true, false}
 use mathlib.Core.List.{List, [], _∷_, _++_}
-use mathlib.Core.Logic.{_≢_}
 use Prim.Native.Nat.{ℕ, zero, suc, _+_, _-_, _<_, _≤_}
 use native.Mathlib.Omega.{arith}
 use lib.IntN.{ℤ, pos, _+ℤ_}
@@ -16,12 +15,13 @@ use Rattle.ticks.proofs.Order.{≤ℤ-trans, ≤ℤ-eq, ≤ℤ-<ℤ-trans}
 use Rattle.ticks.proofs.Extremes.{max-left, greater}
 use Rattle.flow.specs.Flow.{Flow, Good, Side, late, early, When, at, brings, departs, next, round}
 use Rattle.flow.specs.Bounds.{Gives}
-use Rattle.flow.specs.Walk.{Step, Walk, routeBack, gain, sources, Every, Distinct, GrowingRing}
-use Rattle.flow.proofs.Below.{Fresh, twice-apart, pigeons}
+use Rattle.flow.specs.Walk.{Step, routeBack, gain, GrowingRing}
+use Rattle.flow.proofs.Below.{Fresh, pigeons}
 use Rattle.flow.proofs.Arrival.{Found, nothing, found, find}
 use Rattle.flow.proofs.Next.{launch-next}
 use Rattle.flow.proofs.Rounds.{rises-by}
-use Rattle.flow.proofs.Joined.{every-join, distinct-join, sources-join, walk-join, gain-join}
+use Rattle.flow.proofs.Joined.{gain-join}
+use Rattle.flow.proofs.Closing.{Steps, front, rest, ring-closed, ring-distinct}
 
 -- the arc a brings the latch i all of the time t from E, and no more than the time u from D
 record Pull (f : Flow) (D E : ℕ → ℤ) (i : ℕ) (u t : ℤ) (a : ℕ) : Type 0 where
@@ -137,22 +137,26 @@ chain s f good zero u l h = record {
 chain s f good (suc n) u l h = let b = back s f n u h in
     extend s f n u (b .0) l (b .1) (chain s f good n (f .source (b .0)) (good .leaves (b .0) (b .1 .step .here)) (b .2))
 
--- a walk from i to j, and what the rounds say of its gain
-record Along (s : Side) (f : Flow) (i m j n : ℕ) (p : List ℕ) : Type 0 where
-  walk : Walk f i p j
-  gains : round s f n j ≤ℤ (round s f m i +ℤ gain f p)
-
 -- what adds to a time is not empty
 pub grows-some : (f : Flow) (p : List ℕ) → pos 0 <ℤ gain f p → 0 < length p
 grows-some f [] h = omega ints
 grows-some f (a ∷ p) h = omega arith
 
+-- what the rounds say of a walk's gain
 module _ (s : Side) (f : Flow) (n : ℕ) (node arc : ℕ → ℕ) (trail : Trail s f n node arc) where
-  along : (d b a : ℕ) → a + d ≡ b → (m k : ℕ) → b + m ≡ n → a + k ≡ n → Along s f (node b) m (node a) k (routeBack arc b d)
+  pub trail-steps : Steps f n node arc
+  trail-steps = record {
+    small = trail .small;
+    step = λ d l. trail .link d (n - suc d) (omega arith) .step;
+    enters = λ d l. trail .link d (n - suc d) (omega arith) .enters;
+  }
+
+  along : (d b a : ℕ) → a + d ≡ b → (m k : ℕ) → b + m ≡ n → a + k ≡ n →
+      round s f k (node a) ≤ℤ (round s f m (node b) +ℤ gain f (routeBack arc b d))
   along zero b a e m k p q =
       let x : b ≡ a = omega arith in
       let y : m ≡ k = omega arith in
-      record { walk = ap node x; gains = rw (x, y) (omega (ints, sum (round s f k (node a)) (pos 0))) }
+      rw (x, y) (omega (ints, sum (round s f k (node a)) (pos 0)))
   along (suc d) zero a e m k p q = let z : ⊥ = omega arith in absurd z
   along (suc d) (suc b) a e m k p q =
       let h = along d b a (omega arith) (suc m) k (omega arith) q in
@@ -160,87 +164,42 @@ module _ (s : Side) (f : Flow) (n : ℕ) (node arc : ℕ → ℕ) (trail : Trail
       let g = gain f (routeBack arc b d) in
       let w = f .weight (arc b) in
       let t = round s f m (node (suc b)) in
-      record {
-        walk = (l .step, rw (l .enters) (h .walk));
-        gains = omega (ints, h .gains, l .carry, sum (round s f (suc m) (node b)) g, sum t w, sum w g, sum t (w +ℤ g));
-      }
+      omega (ints, h, l .carry, sum (round s f (suc m) (node b)) g, sum t w, sum w g, sum t (w +ℤ g))
 
-  -- the arcs leave the nodes after place a, up to place b
-  leaves-every : (P : ℕ → Type 0) (d b a : ℕ) → a + d ≡ b → b ≤ n →
-      ((x : ℕ) → a < x → x ≤ b → P (node x)) → Every P (sources f (routeBack arc b d))
-  leaves-every P zero b a e l h = tt
-  leaves-every P (suc d) zero a e l h = tt
-  leaves-every P (suc d) (suc b) a e l h = (
-    rw (trail .link b (n - suc b) (omega arith) .step .from) (h (suc b) (omega arith) (omega arith)),
-    leaves-every P d b a (omega arith) (omega arith) (λ x k m. h x k (omega arith)),
-  )
-
-  leaves-distinct : (d b a : ℕ) → a + d ≡ b → b ≤ n →
-      ((y : ℕ) → y ≤ b → (x : ℕ) → a < x → x < y → node x ≢ node y) → Distinct (sources f (routeBack arc b d))
-  leaves-distinct zero b a e l h = tt
-  leaves-distinct (suc d) zero a e l h = tt
-  leaves-distinct (suc d) (suc b) a e l h = (
-    rw (trail .link b (n - suc b) (omega arith) .step .from)
-        (leaves-every (λ y. node (suc b) ≢ y) d b a (omega arith) (omega arith) (λ x k m r. h (suc b) (omega arith) x k (omega arith) (sym r))),
-    leaves-distinct d b a (omega arith) (omega arith) (λ y k. h y (omega arith)),
-  )
-
-  -- the first node that comes twice, at places a and b, closes a ring. It may be started at any place between
   module _ (a b low : ℕ) (above : a < low) (below : low ≤ b) (bound : b ≤ n) (same : node a ≡ node b) (fresh : Fresh node b) where
-    abbrev front : List ℕ
-    front = routeBack arc low (low - a)
+    abbrev ahead : List ℕ
+    ahead = front f n node arc trail-steps a b low above below bound same fresh
 
-    abbrev rest : List ℕ
-    rest = routeBack arc b (b - low)
+    abbrev behind : List ℕ
+    behind = rest f n node arc trail-steps a b low above below bound same fresh
 
-    to-same : Along s f (node low) (n - low) (node b) (suc (n - suc a)) front
-    to-same = rw same at (along (low - a) low a (omega arith) (n - low) (suc (n - suc a)) (omega arith) (omega arith))
-
-    to-low : Along s f (node b) (n - b) (node low) (n - low) rest
-    to-low = along (b - low) b low (omega arith) (n - b) (n - low) (omega arith) (omega arith)
-
-    pub ring-every : (P : ℕ → Type 0) → ((x : ℕ) → a < x → x ≤ b → P (node x)) → Every P (sources f (front ++ rest))
-    ring-every P h = rw (sources-join f front rest) (every-join P (sources f front) (sources f rest)
-        (leaves-every P (low - a) low a (omega arith) (omega arith) (λ x k m. h x k (omega arith)))
-        (leaves-every P (b - low) b low (omega arith) bound (λ x k m. h x (omega arith) m)))
-
-    pub ring-closed : Walk f (node low) (front ++ rest) (node low)
-    ring-closed = walk-join f front rest (node low) (node b) (node low) (to-same .walk) (to-low .walk)
-
-    pub ring-distinct : Distinct (sources f (front ++ rest))
-    ring-distinct =
-        let apart = twice-apart node a b same fresh in
-        rw (sources-join f front rest) (distinct-join (sources f front) (sources f rest)
-        (leaves-distinct (low - a) low a (omega arith) (omega arith) (λ y k. apart y (omega arith)))
-        (leaves-distinct (b - low) b low (omega arith) bound (λ y k x h. apart y k x (omega arith)))
-        (leaves-every (λ i. Every (λ j. i ≢ j) (sources f rest)) (low - a) low a (omega arith) (omega arith)
-        (λ x h k. leaves-every (λ j. node x ≢ j) (b - low) b low (omega arith) bound (λ y p q. apart y q x h (omega arith)))))
-
-    pub ring-grows : Good f → pos 0 <ℤ gain f (front ++ rest)
+    pub ring-grows : Good f → pos 0 <ℤ gain f (ahead ++ behind)
     ring-grows good =
         let k = n - suc a in
         let l = rw same at (trail .link a k (omega arith) .rose) in
         let r = rises-by s f good (k - (n - b)) (n - b) k (omega arith) (node b) (trail .small b bound) in
+        let p = rw same at (along (low - a) low a (omega arith) (n - low) (suc (n - suc a)) (omega arith) (omega arith)) in
+        let q = along (b - low) b low (omega arith) (n - b) (n - low) (omega arith) (omega arith) in
         omega (
           ints,
           l,
           r,
-          to-same .gains,
-          to-low .gains,
-          gain-join f front rest,
-          sum (gain f front) (gain f rest),
-          sum (round s f (n - low) (node low)) (gain f front),
-          sum (round s f (n - b) (node b)) (gain f rest),
+          p,
+          q,
+          gain-join f ahead behind,
+          sum (gain f ahead) (gain f behind),
+          sum (round s f (n - low) (node low)) (gain f ahead),
+          sum (round s f (n - b) (node b)) (gain f behind),
         )
 
     abbrev pub turned-ring : Good f → GrowingRing f
     turned-ring good = record {
       ring = record {
         start = node low;
-        path = front ++ rest;
-        some = grows-some f (front ++ rest) (ring-grows good);
-        closed = ring-closed;
-        distinct = ring-distinct;
+        path = ahead ++ behind;
+        some = grows-some f (ahead ++ behind) (ring-grows good);
+        closed = ring-closed f n node arc trail-steps a b low above below bound same fresh;
+        distinct = ring-distinct f n node arc trail-steps a b low above below bound same fresh;
       };
       grows = ring-grows good;
     }

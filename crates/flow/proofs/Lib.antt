@@ -7,13 +7,16 @@ pub mod Rounds
 pub mod Room
 pub mod Windows
 pub mod Walks
+pub mod Joined
+pub mod Closing
 pub mod Chain
 pub mod Settles
 pub mod Rank
 pub mod Agree
 pub mod Sizes
 pub mod Example
-pub mod Joined
+pub mod Updates
+pub mod Parents
 pub mod Path
 pub mod HasPath
 pub mod SamePath

@@ -26,7 +26,7 @@ module _ (s : Side) (f : Flow) (good : Good f) (n : ℕ) (long : f .nodes ≤ su
 
 -- where late departures fit, both sides of every flow within settle
 module _ (g f : Flow) (inner : Good g) (outer : Good f) (w : Within late g f) (E : ℕ → ℤ) (fits : Fits late f E) where
-  within-calm : GrowingRing g → ⊥
+  pub within-calm : GrowingRing g → ⊥
   within-calm = holds-calm g E (within-holds g f inner w E (fits-holds f outer E fits))
 
   pub within-settles : (s : Side) (n : ℕ) → g .nodes ≤ suc n → Settled s g n

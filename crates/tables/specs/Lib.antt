@@ -1,4 +1,8 @@
 pub mod Net
 pub mod Models
-pub mod Held
 pub mod Trail
+pub mod Listing
+pub mod Raise
+pub mod Parents
+pub mod Passing
+pub mod Ranks

@@ -1,5 +1,5 @@
 -- A flow as the engine holds it: tables of natural numbers, times raised by a constant, the arcs into a node lying side by side.
-use mathlib.Core.Bool.{Bool, true, false, cond, _||_, not}
+use mathlib.Core.Bool.{Bool, true, false, cond}
 use mathlib.Core.List.{List}
 use Prim.Native.Nat.{ℕ, zero, suc, _+_, _-_, _<_, _≤_, max, min}
 use lib.Dec.{eqb}
@@ -67,19 +67,6 @@ departing latch degree arrival launch = cond latch (cond (eqb degree 0) launch (
 
 unfoldable pub departN : Side → Net → (ℕ → ℕ) → ℕ → ℕ
 departN s n D i = departing (n .latch i) (degree n i) (arrivalN s n D i) (n .launch i)
-
-unfoldable pub roundN : Side → Net → ℕ → ℕ → ℕ
-roundN s n zero = n .launch
-roundN s n (suc k) = departN s n (roundN s n k)
-
--- does one of the first n pass a test?
-unfoldable pub anyOf : (ℕ → Bool) → ℕ → Bool
-anyOf test zero = false
-anyOf test (suc n) = anyOf test n || test n
-
--- does a round move one of the first l nodes?
-abbrev pub moves : Side → Net → (ℕ → ℕ) → ℕ → Bool
-moves s n D i = not (eqb (departN s n D i) (D i))
 
 -- the tables of l nodes and m arcs stay within their bounds
 pub record Shaped (n : Net) (l m : ℕ) : Type 0 where

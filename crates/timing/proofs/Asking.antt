@@ -1,28 +1,32 @@
--- The path question on loaded tables. The table of first arcs says whether an arc leads in; where the rounds do not settle a ring grows; where
+-- The path question on loaded tables. The table of first arcs says whether an arc leads in; where the passes do not settle a ring grows; where
 -- they do, their departures and ranks can be traced back, and the trail written is the path.
+use mathlib.Core.Bool.{Bool, false}
 use mathlib.Core.Path.{_≡_, sym, _∙_}
 use mathlib.Core.List.{List, [], _∷_, _++_}
 use mathlib.Core.Logic.{inl, inr, _≢_}
-use Prim.Native.Nat.{ℕ, suc, _+_, _<_}
+use Prim.Native.Nat.{ℕ, suc, _+_, _-_, _<_}
 use native.Mathlib.Omega.{arith}
 use lib.ListN.{length, getD, length-append}
 use Rattle.image.specs.Valid.{Valid, imageIn}
 use Rattle.image.specs.declared.kind.Image.{Image}
-use Rattle.flow.specs.Flow.{late}
+use Rattle.flow.specs.Flow.{late, round}
 use Rattle.flow.specs.Bounds.{Unentered}
 use Rattle.flow.specs.Walk.{GrowingRing}
 use Rattle.flow.specs.Rank.{Rank}
-use Rattle.flow.proofs.Rank.{lowest-unique, rank, rank-round}
+use Rattle.flow.proofs.Rank.{lowest-unique, rank}
+use Rattle.flow.proofs.Rounds.{settled-least}
+use Rattle.flow.proofs.Walks.{fits-calm}
 use Rattle.flow.proofs.Settles.{settles-or}
 use Rattle.circuit.specs.Circuit.{circuitOf}
 use Rattle.circuit.specs.Clock.{flow}
 use Rattle.circuit.proofs.Sound.{sound, good}
 use Rattle.tables.specs.Net.{timesOf, arcsOf}
-use Rattle.tables.specs.Held.{Unsettled}
+use Rattle.tables.specs.Ranks.{RanksUpTo}
+use Rattle.tables.specs.Passing.{Climbed}
+use Rattle.tables.proofs.Sweeps.{ranks-found}
 use Rattle.tables.specs.Trail.{Stepping}
 use Rattle.tables.proofs.Models.{lowered}
 use Rattle.tables.proofs.Trails.{trail-length, stepping, trail-path}
-use Rattle.tables.proofs.Worked as worked
 use Rattle.timing.specs.Loaded.{Loaded}
 use Rattle.timing.specs.Told.{Known}
 use Rattle.timing.specs.Traceable.{Traceable, PathWritten}
@@ -30,7 +34,7 @@ use Rattle.timing.specs.Paths.{Asked, PathCall, found}
 use Rattle.timing.specs.declared.ask.Way.the-variants.{Found}
 use Rattle.timing.proofs.Read.{counts}
 use Rattle.timing.proofs.Tracing.{source-here, behind}
-use Rattle.timing.proofs.Work.{side, models, tamed, Reckoned}
+use Rattle.timing.proofs.Work.{side, models, shape, climbed-done}
 
 module _ (bytes : List ℕ) (v : Valid bytes) (image : Image) (same : image ≡ imageIn bytes)
     (sources lates earlies first launches latches : List ℕ) (t : Loaded (circuitOf bytes) sources lates earlies first launches latches) where
@@ -44,22 +48,34 @@ module _ (bytes : List ℕ) (v : Valid bytes) (image : Image) (same : image ≡ 
     pub first-in : getD first i 0 < getD first (i + 1) 0 → (getD first i 0 < circuitOf bytes .arcs) × (circuitOf bytes .to (getD first i 0) ≡ i)
     first-in l = (omega (arith, t .firsts .within i here), t .firsts .inside i (getD first i 0) here (omega arith) l)
 
-  pub ring-grows : Unsettled late (side late image sources lates earlies first launches latches) (image .synchronizers) →
-      GrowingRing (flow late (circuitOf bytes))
-  ring-grows un =
-      let n = counts bytes image same in
+  pub ring-grows : (target heads links : ℕ → ℕ) (D P : List ℕ) (u : ℕ) {b : Bool} →
+      Climbed late (side late image sources lates earlies first launches latches) (image .synchronizers) (timesOf D) (timesOf P) u b → b ≡ false →
+      0 < image .synchronizers → GrowingRing (flow late (circuitOf bytes))
+  ring-grows target heads links D P u {b} h e some =
       let c = circuitOf bytes in
-      let u = rw (n .synchronizers) at un in
-      elim (settles-or late (flow late c) (good late c (sound bytes v)) (u .last) (omega (arith, u .late))) [
+      let k = image .synchronizers - 1 in
+      let n = counts bytes image same in
+      elim (settles-or late (flow late c) (good late c (sound bytes v)) k (omega (arith, n .synchronizers))) [
         | inl ring ↦ ring
-        | inr still ↦ absurd (worked.still-moves c (sound bytes v) late _ (models bytes v image same sources lates earlies first launches latches t late) u (still (u .node) (u .here)))
+        | inr still ↦ (
+            let fits = settled-least late (flow late c) (good late c (sound bytes v)) k still .fits in
+            let q = climbed-done bytes v image same sources lates earlies first launches latches t late target heads links D P u h
+            (fits-calm (flow late c) (good late c (sound bytes v)) (round late (flow late c) k) fits) in
+            let y : _≡_ {A = ℕ} 0 1 = cc in let o : ⊥ = omega arith in absurd o)
       ]
 
-  module _ (D R : List ℕ) (known : Known late (circuitOf bytes) D) (reckoned : Reckoned late (circuitOf bytes) D R) where
-    ranks : (i : ℕ) → i < circuitOf bytes .synchronizers → Rank (flow late (circuitOf bytes)) (lowered (timesOf D)) i (timesOf R i)
-    ranks i l = rank-round (flow late (circuitOf bytes)) (good late (circuitOf bytes) (sound bytes v)) (lowered (timesOf D)) (known .least .fits)
-        (timesOf R i) i l .1 (reckoned i l)
+  pub ranks-are : (D R : List ℕ) → Known late (circuitOf bytes) D →
+      RanksUpTo (side late image sources lates earlies first launches latches) (image .synchronizers) (timesOf D) (timesOf R) →
+      (i : ℕ) → i < circuitOf bytes .synchronizers → Rank (flow late (circuitOf bytes)) (lowered (timesOf D)) i (timesOf R i)
+  ranks-are D R known h i l =
+      let n = counts bytes image same in
+      let c = circuitOf bytes in
+      ranks-found (side late image sources lates earlies first launches latches) (image .synchronizers) (image .arcs)
+      (shape bytes v image same sources lates earlies first launches latches t late) (flow late c) (good late c (sound bytes v))
+      (models bytes v image same sources lates earlies first launches latches t late) (sym (n .synchronizers)) (timesOf D) (rw (n .synchronizers) (known .ranged)) (known .least) (timesOf R) h i (rw (n .synchronizers) l)
 
+  module _ (D R : List ℕ) (known : Known late (circuitOf bytes) D)
+      (ranks : (i : ℕ) → i < circuitOf bytes .synchronizers → Rank (flow late (circuitOf bytes)) (lowered (timesOf D)) i (timesOf R i)) where
     steps : Stepping (arcsOf sources lates (image .cycle)) (timesOf first) (timesOf D) (timesOf R) (circuitOf bytes .synchronizers)
     steps =
         stepping (side late image sources lates earlies first launches latches) (flow late (circuitOf bytes))
@@ -70,7 +86,7 @@ module _ (bytes : List ℕ) (v : Valid bytes) (image : Image) (same : image ≡ 
     traceable =
         let n = counts bytes image same in
         let c = circuitOf bytes in
-        let s = tamed bytes v image same sources lates earlies first launches latches t late .shaped in
+        let s = shape bytes v image same sources lates earlies first launches latches t late in
         record {
           works = record {
             arcs = image .arcs;

@@ -1,17 +1,22 @@
 -- The loaded tables hold the circuit's flows, late and early, and stay within their bounds.
 use mathlib.Core.Path.{_≡_}
 use mathlib.Core.List.{List}
-use Prim.Native.Nat.{ℕ, _<_}
+use Prim.Native.Nat.{ℕ, _+_, _<_}
 use native.Mathlib.Omega.{arith}
 use lib.ListN.{getD}
 use Rattle.image.specs.Valid.{Valid, imageIn}
 use Rattle.image.specs.declared.kind.Image.{Image}
+use Rattle.ticks.specs.Raised.{RAISE}
+use Rattle.ticks.proofs.Ints.{ints}
+use Rattle.ticks.proofs.Raised.{span, le-lower, lower-raise}
 use Rattle.flow.specs.Flow.{Side, late, early}
 use Rattle.circuit.specs.Circuit.{Circuit, circuitOf}
 use Rattle.circuit.specs.Clock.{flow}
 use Rattle.circuit.proofs.Sound.{sound}
+use Rattle.circuit.proofs.Ranges.{launch-range}
 use Rattle.tables.specs.Net.{arcsOf, netOf, Shaped}
 use Rattle.tables.specs.Models.{Models}
+use Rattle.tables.specs.Raise.{Modest}
 use Rattle.timing.specs.Loaded.{Leads, LoadedNodes, LoadedArcs, LoadedFirst, leadsOf}
 use Rattle.timing.proofs.Read.{counts}
 
@@ -49,4 +54,18 @@ module _ (bytes : List ℕ) (v : Valid bytes) (image : Image) (same : image ≡ 
         rises = firsts .rises;
         ends = firsts .within;
         cycle = omega (arith, c .cycle);
+      })
+
+  -- launches lie between 0 and the cycle, raised, and leads are small
+  pub held-modest : Modest (netOf (arcsOf sources (leadsOf s lates earlies) (image .cycle)) first launches latches) (image .synchronizers) (image .arcs)
+  held-modest =
+      let c = circuitOf bytes in
+      let v' = sound bytes v in
+      let n = counts bytes image same in
+      rw (n .synchronizers, n .arcs) (record {
+        low = λ i l. le-lower RAISE (getD launches i 0) (rw (nodes .each i l .launch) (omega (ints, span RAISE, launch-range c v' i l .low)));
+        high = λ i l.
+            let h = le-lower (getD launches i 0) (RAISE + 1000000000) (rw (nodes .each i l .launch, lower-raise 1000000000) (omega (ints, launch-range c v' i l .high, v' .cycle))) in
+            omega arith;
+        leads = λ a l. leads-held s c sources lates earlies arcs a l .small;
       })

@@ -1,22 +1,23 @@
--- What is loaded of an arc, from what was read of it and of its two ends, and from the shift between their phases.
+-- What is loaded of an arc, from what was read of it, from what was noted of its two ends, and from the shift between their phases.
 use mathlib.Core.Path.{_≡_}
 use mathlib.Core.List.{List}
 use Prim.Native.Nat.{ℕ, _+_, _-_, _≤_, _<_}
 use native.Mathlib.Omega.{arith}
 use lib.IntN.{pos}
+use lib.ListN.{getD}
 use Rattle.ticks.proofs.Ints.{ints, diff, apart}
 use Rattle.image.specs.Valid.{Valid, imageIn}
-use Rattle.image.specs.Records.{synchronizerAt, arcAt}
+use Rattle.image.specs.Records.{arcAt}
 use Rattle.image.specs.declared.kind.Image.{Image}
-use Rattle.image.specs.declared.records.Synchronizer.{Synchronizer}
 use Rattle.image.specs.declared.records.Arc.{Arc}
 use Rattle.flow.specs.Flow.{Side, late, early}
 use Rattle.circuit.specs.Circuit.{Circuit, circuitOf}
 use Rattle.circuit.specs.Clock.{shift, across, delay, weight}
 use Rattle.circuit.proofs.Sound.{sound}
 use Rattle.circuit.proofs.Ranges.{across-range}
-use Rattle.timing.specs.Loaded.{Leads, Led}
-use Rattle.timing.proofs.Read.{OfSynchronizer, OfArc, counts, of-synchronizer, of-arc}
+use Rattle.timing.specs.Loaded.{Noted, Leads, Led}
+use Rattle.timing.proofs.Read.{OfArc, counts, of-arc, most-phases}
+use Rattle.timing.proofs.Shifts.{Shifting, shifting}
 
 -- a delay with the cycle added and the shift x taken away
 leads : (s : Side) (c : Circuit) (a d x : ℕ) → d ≡ delay s c a → d ≤ 2000000000 → c .cycle ≤ 1000000000 → pos x ≡ across c a → x ≤ c .cycle →
@@ -27,51 +28,72 @@ leads s c a d x e h k w q = record {
   small = omega arith;
 }
 
-pub record Ends (image : Image) (r : Arc) (f t : Synchronizer) : Type 0 where
-  pub phases : (f .phase < image .phases) × (t .phase < image .phases)
+-- what is known once an arc is read: it leads from p to q, which close at x and y, and no sum is large
+pub record Ends (c : Circuit) (cycle : ℕ) (r : Arc) (p q x y low high : ℕ) : Type 0 where
   pub from : r .from < 512
-  pub late : f .greatest + r .greatest ≤ 2000000000
-  pub early : f .least + r .least ≤ 2000000000
+  pub to : r .to < 512
+  pub phases : (p < 16) × (q < 16)
+  pub shifts : Shifting c cycle p q x y
+  pub late : high + r .greatest ≤ 2000000000
+  pub early : low + r .least ≤ 2000000000
 
 module _ (bytes : List ℕ) (v : Valid bytes) (image : Image) (same : image ≡ imageIn bytes) (a : ℕ) (l : a < image .arcs)
-    (r : Arc) (of : r ≡ arcAt bytes (image .layout) a)
-    (f : Synchronizer) (left : f ≡ synchronizerAt bytes (image .layout) (r .from))
-    (t : Synchronizer) (entered : t ≡ synchronizerAt bytes (image .layout) (r .to)) where
+    (r : Arc) (of : r ≡ arcAt bytes (image .layout) a) (closings phases leasts greatests : List ℕ)
+    (n : Noted (circuitOf bytes) closings phases leasts greatests) where
   here : a < circuitOf bytes .arcs
   here = omega (arith, counts bytes image same .arcs)
 
   arc-is : OfArc (circuitOf bytes) a r
   arc-is = of-arc bytes image same of
 
-  from-is : OfSynchronizer (circuitOf bytes) (circuitOf bytes .from a) f
-  from-is = rw (arc-is .from) at (of-synchronizer bytes image same left)
+  leaves : circuitOf bytes .from a < circuitOf bytes .synchronizers
+  leaves = sound bytes v .from a here
 
-  to-is : OfSynchronizer (circuitOf bytes) (circuitOf bytes .to a) t
-  to-is = rw (arc-is .to) at (of-synchronizer bytes image same entered)
+  enters : circuitOf bytes .to a < circuitOf bytes .synchronizers
+  enters = sound bytes v .to a here
 
-  -- the phases are known, and no sum is large
-  pub ends-known : Ends image r f t
+  left-is : getD phases (r .from) 0 ≡ circuitOf bytes .phase (circuitOf bytes .from a)
+  left-is = rw (arc-is .from) (n .phase .holds (circuitOf bytes .from a) leaves)
+
+  entered-is : getD phases (r .to) 0 ≡ circuitOf bytes .phase (circuitOf bytes .to a)
+  entered-is = rw (arc-is .to) (n .phase .holds (circuitOf bytes .to a) enters)
+
+  least-is : getD leasts (r .from) 0 ≡ circuitOf bytes .least (circuitOf bytes .from a)
+  least-is = rw (arc-is .from) (n .least .holds (circuitOf bytes .from a) leaves)
+
+  greatest-is : getD greatests (r .from) 0 ≡ circuitOf bytes .greatest (circuitOf bytes .from a)
+  greatest-is = rw (arc-is .from) (n .greatest .holds (circuitOf bytes .from a) leaves)
+
+  pub ends-known : Ends (circuitOf bytes) (image .cycle) r (getD phases (r .from) 0) (getD phases (r .to) 0)
+      (getD closings (getD phases (r .from) 0) 0) (getD closings (getD phases (r .to) 0) 0) (getD leasts (r .from) 0) (getD greatests (r .from) 0)
   ends-known =
       let c = sound bytes v in
-      let n = counts bytes image same .phases in
-      let g = c .greatest _ (c .from a here) in
+      let p = c .phase _ leaves in
+      let q = c .phase _ enters in
+      let g = c .greatest _ leaves in
       let m = c .longest a here in record {
-        phases = (omega (arith, from-is .phase, c .phase _ (c .from a here)), omega (arith, to-is .phase, c .phase _ (c .to a here)));
-        from = omega (arith, arc-is .from, c .from a here, c .synchronizers);
-        late = omega (arith, from-is .greatest, arc-is .greatest);
-        early = omega (arith, from-is .least, arc-is .least, c .least _ (c .from a here), c .shortest a here);
+        from = omega (arith, arc-is .from, leaves, c .synchronizers);
+        to = omega (arith, arc-is .to, enters, c .synchronizers);
+        phases = (omega (arith, left-is, p, most-phases bytes v), omega (arith, entered-is, q, most-phases bytes v));
+        shifts = rw (left-is, entered-is, n .closing .holds _ p, n .closing .holds _ q, counts bytes image same .cycle) (shifting (circuitOf bytes) c _ _ p q);
+        late = omega (arith, greatest-is, arc-is .greatest);
+        early = omega (arith, least-is, arc-is .least, c .least _ leaves, c .shortest a here);
       }
 
-  module _ (x : ℕ) (shifts : pos x ≡ shift (circuitOf bytes) (f .phase) (t .phase)) where
+  pub target-known : r .to ≡ circuitOf bytes .to a
+  target-known = arc-is .to
+
+  module _ (x : ℕ) (shifts : pos x ≡ shift (circuitOf bytes) (getD phases (r .from) 0) (getD phases (r .to) 0)) where
     shift-is : pos x ≡ across (circuitOf bytes) a
-    shift-is = rw (from-is .phase, to-is .phase) at shifts
+    shift-is = rw (left-is, entered-is) at shifts
 
     pub back-known : (x ≤ image .cycle) × (image .cycle ≤ 1000000000)
     back-known =
         let n = counts bytes image same .cycle in
         (omega (ints, shift-is, across-range (circuitOf bytes) (sound bytes v) a here .high), omega (arith, sound bytes v .cycle))
 
-    pub led-known : Led (circuitOf bytes) a (r .from) (f .greatest + r .greatest + (image .cycle - x)) (f .least + r .least + (image .cycle - x))
+    pub led-known : Led (circuitOf bytes) a (r .from) (getD greatests (r .from) 0 + r .greatest + (image .cycle - x))
+        (getD leasts (r .from) 0 + r .least + (image .cycle - x))
     unfolding delay
     led-known =
         let n = counts bytes image same .cycle in
@@ -79,6 +101,6 @@ module _ (bytes : List ℕ) (v : Valid bytes) (image : Image) (same : image ≡ 
         let b = rw n at (back-known .0) in
         rw n (record {
           source = arc-is .from;
-          late = leads late (circuitOf bytes) a (f .greatest + r .greatest) x (rw (from-is .greatest, arc-is .greatest)) (ends-known .late) c shift-is b;
-          early = leads early (circuitOf bytes) a (f .least + r .least) x (rw (from-is .least, arc-is .least)) (ends-known .early) c shift-is b;
+          late = leads late (circuitOf bytes) a (getD greatests (r .from) 0 + r .greatest) x (rw (greatest-is, arc-is .greatest)) (ends-known .late) c shift-is b;
+          early = leads early (circuitOf bytes) a (getD leasts (r .from) 0 + r .least) x (rw (least-is, arc-is .least)) (ends-known .early) c shift-is b;
         })

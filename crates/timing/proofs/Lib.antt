@@ -1,7 +1,8 @@
 -- The laws that timing's proofs share.
--- walks over arcs, and rounds
+-- walks over arcs, and passes
 pub mod Reach
-pub mod Settling
+pub mod Lengths
+pub mod Picked
 -- loading
 pub mod Read
 pub mod Shifts
@@ -17,14 +18,10 @@ pub mod Six
 pub mod Slack
 pub mod Writing
 -- the growing ring
-pub mod Taken
 pub mod Route
 pub mod Places
-pub mod Kept
-pub mod Noted
-pub mod Back
-pub mod Showing
-pub mod Replayed
+pub mod Following
+pub mod Looping
 -- the path
 pub mod Tracing
 -- the calls, and what their promises leave open

@@ -1,8 +1,8 @@
 -- What is read of a record of an image is what the image's circuit says under its own names.
 use mathlib.Core.Path.{_≡_, refl}
 use mathlib.Core.List.{List}
-use Prim.Native.Nat.{ℕ}
-use Rattle.image.specs.Valid.{imageIn}
+use Prim.Native.Nat.{ℕ, _≤_}
+use Rattle.image.specs.Valid.{Valid, imageIn}
 use Rattle.image.specs.Records.{phaseAt, synchronizerAt, arcAt}
 use Rattle.image.specs.declared.kind.Image.{Image}
 use Rattle.image.specs.declared.records.Phase.{Phase}
@@ -31,6 +31,10 @@ pub record OfArc (c : Circuit) (a : ℕ) (r : Arc) : Type 0 where
   pub to : r .to ≡ c .to a
   pub least : r .least ≡ c .shortest a
   pub greatest : r .greatest ≡ c .longest a
+
+pub most-phases : (bytes : List ℕ) → Valid bytes → circuitOf bytes .phases ≤ 16
+unfolding circuitOf
+most-phases bytes v = v .phases
 
 module _ (bytes : List ℕ) (image : Image) (same : image ≡ imageIn bytes) where
   pub counts : Counts (circuitOf bytes) image

@@ -1,5 +1,5 @@
 -- Where the arcs into a synchronizer begin. Arcs are ordered by their targets, so one place splits those below i from the others.
-use mathlib.Core.Path.{_≡_}
+use mathlib.Core.Path.{_≡_, _∙_}
 use mathlib.Core.List.{List}
 use mathlib.Core.Logic.{⊎-elim}
 use Prim.Native.Nat.{ℕ, _+_, _≤_, _<_}
@@ -9,54 +9,75 @@ use lib.ListN.{length, getD, set}
 use borrow.Author.Count.{below-more}
 use Rattle.circuit.specs.Circuit.{Circuit}
 use Rattle.circuit.proofs.Sound.{Sound}
-use Rattle.timing.specs.Loaded.{Splits, LoadedFirst}
+use Rattle.tables.specs.Net.{timesOf}
+use Rattle.tables.specs.Listing.{Linked, Onward}
+use Rattle.tables.proofs.Filled.{Filled}
+use Rattle.timing.specs.Loaded.{Sorted, Splits, Firsts, LoadedFirst}
 use Rattle.timing.proofs.Storing.{kept, stored, sized}
 
 not-below : (x y : ℕ) → (y < x → ⊥) → x ≤ y
 not-below x y h = omega (arith, lt-of-not-le h)
 
-module _ (c : Circuit) (v : Sound c) where
-  to-rises : (a b : ℕ) → a ≤ b → b < c .arcs → c .to a ≤ c .to b
-  to-rises a b h l =
-      ⊎-elim (λ e. rw e (le-refl _)) (λ k. ⊎-elim (λ p. omega arith) (λ p. omega arith) (v .ordered a b k l)) (eq-or-lt-of-le h)
+-- the first arc whose target is not below i, or the number of arcs
+pub splits : (to : ℕ → ℕ) (m : ℕ) → Sorted to m → (i x : ℕ) → x ≤ m → ((a : ℕ) → a < x → to a < i) → (x < m → i ≤ to x) → Splits to m i x
+splits to m s i x w b t = record {
+  within = w;
+  below = b;
+  above = λ a h l. omega (arith, t (omega arith), s x a h l);
+}
 
-  -- the first arc whose target is not below i, or the number of arcs
-  pub splits : (i x : ℕ) → x ≤ c .arcs → ((a : ℕ) → a < x → c .to a < i) → (x < c .arcs → i ≤ c .to x) → Splits c i x
-  splits i x w b t = record {
-    within = w;
-    below = b;
-    above = λ a h l. omega (arith, t (omega arith), to-rises x a h l);
-  }
-
-module _ (c : Circuit) (i x y : ℕ) (p : Splits c i x) (q : Splits c (i + 1) y) where
+module _ (to : ℕ → ℕ) (m i x y : ℕ) (p : Splits to m i x) (q : Splits to m (i + 1) y) where
   split-rises : x ≤ y
   split-rises = not-below x y (λ h. omega (arith, p .below y h, q .above y (le-refl y) (omega (arith, p .within))))
 
-  split-inside : (a : ℕ) → x ≤ a → a < y → c .to a ≡ i
+  split-inside : (a : ℕ) → x ≤ a → a < y → to a ≡ i
   split-inside a h k = omega (arith, q .below a k, p .above a h (omega (arith, q .within)))
 
-  split-outside : (a : ℕ) → a < c .arcs → c .to a ≡ i → (x ≤ a) × (a < y)
+  split-outside : (a : ℕ) → a < m → to a ≡ i → (x ≤ a) × (a < y)
   split-outside a l e = (
     not-below x a (λ h. omega (arith, p .below a h)),
     lt-of-not-le (λ h. omega (arith, q .above a h l)),
   )
 
--- each of the table's first n places splits the arcs
-pub record Firsts (c : Circuit) (n : ℕ) (first : List ℕ) : Type 0 where
-  pub long : length first ≡ 513
-  pub each : (i : ℕ) → i < n → Splits c i (getD first i 0)
-
-pub firsts-more : (c : Circuit) (n : ℕ) (first : List ℕ) (x : ℕ) → Firsts c n first → n < 513 → Splits c n x → Firsts c (n + 1) (set first n x)
-firsts-more c n first x t l new = record {
+pub firsts-more : (to : ℕ → ℕ) (m n : ℕ) (first : List ℕ) (x : ℕ) → Firsts to m n first → n < 513 → Splits to m n x →
+    Firsts to m (n + 1) (set first n x)
+firsts-more to m n first x t l new = record {
   long = sized first n x 513 (t .long);
   each = below-more _ n (λ i h. rw (kept first n x i h) (t .each i h)) (rw (stored first n x (omega (arith, t .long))) new);
 }
 
-pub loaded-first : (c : Circuit) (first : List ℕ) → Firsts c (c .synchronizers + 1) first → LoadedFirst c first
-loaded-first c first t = record {
-  long = t .long;
-  rises = λ i l. split-rises c i _ _ (t .each i (omega arith)) (t .each (i + 1) (omega arith));
-  within = λ i l. t .each (i + 1) (omega arith) .within;
-  inside = λ i a l. split-inside c i _ _ (t .each i (omega arith)) (t .each (i + 1) (omega arith)) a;
-  outside = λ i a l. split-outside c i _ _ (t .each i (omega arith)) (t .each (i + 1) (omega arith)) a;
-}
+-- a table of the targets stands for them
+module _ (c : Circuit) (v : Sound c) (targets : List ℕ) (t : Filled 2048 (c .to) targets (c .arcs)) where
+  to-rises : (a b : ℕ) → a ≤ b → b < c .arcs → c .to a ≤ c .to b
+  to-rises a b h l =
+      ⊎-elim (λ e. rw e (le-refl _)) (λ k. ⊎-elim (λ p. omega arith) (λ p. omega arith) (v .ordered a b k l)) (eq-or-lt-of-le h)
+
+  pub targets-sorted : Sorted (timesOf targets) (c .arcs)
+  targets-sorted a b h l = rw (t .holds a (omega arith), t .holds b l) (to-rises a b h l)
+
+  module _ (first : List ℕ) (f : Firsts (timesOf targets) (c .arcs) (c .synchronizers + 1) first) where
+    at : (i : ℕ) → i < c .synchronizers → Splits (timesOf targets) (c .arcs) i (getD first i 0)
+    at i l = f .each i (omega arith)
+
+    next : (i : ℕ) → i < c .synchronizers → Splits (timesOf targets) (c .arcs) (i + 1) (getD first (i + 1) 0)
+    next i l = f .each (i + 1) (omega arith)
+
+    within : (i : ℕ) → i < c .synchronizers → getD first (i + 1) 0 ≤ c .arcs
+    within i l = next i l .within
+
+    enters : (i a : ℕ) → i < c .synchronizers → getD first i 0 ≤ a → a < getD first (i + 1) 0 → timesOf targets a ≡ i
+    enters i a l = split-inside (timesOf targets) (c .arcs) i _ _ (at i l) (next i l) a
+
+    pub loaded-first : LoadedFirst c first
+    loaded-first = record {
+      long = f .long;
+      rises = λ i l. split-rises (timesOf targets) (c .arcs) i _ _ (at i l) (next i l);
+      within = within;
+      inside = λ i a l low high. rw (← t .holds a (omega (arith, within i l))) (enters i a l low high);
+      outside = λ i a l k e. split-outside (timesOf targets) (c .arcs) i _ _ (at i l) (next i l) a k (t .holds a k ∙ e);
+    }
+
+    -- with chains of the arcs that leave each node, this is where the arcs lead on to
+    pub onward : (source heads links : ℕ → ℕ) → Linked source heads links (c .arcs) →
+        Onward source (timesOf first) (c .synchronizers) (c .arcs) (timesOf targets) heads links
+    onward source heads links k = record { linked = k; nodes = λ a l. rw (t .holds a l) (v .to a l); enters = enters }

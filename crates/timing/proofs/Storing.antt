@@ -1,5 +1,5 @@
 -- One more record stored: what holds of the tables' first n places holds of the first n + 1.
-use mathlib.Core.Path.{_≡_, _∙_}
+use mathlib.Core.Path.{_≡_, ap, _∙_}
 use mathlib.Core.List.{List}
 use Prim.Native.Nat.{ℕ, _+_, _<_}
 use native.Mathlib.Omega.{arith}
@@ -7,6 +7,7 @@ use lib.ListN.{length, getD, set, length-set}
 use lib.Seq.{getD-set-same, getD-set-other}
 use borrow.Author.Count.{below-more}
 use Rattle.circuit.specs.Circuit.{Circuit}
+use Rattle.tables.proofs.Filled.{Filled, fill-more}
 use Rattle.timing.specs.Loaded.{Launched, NodesUpTo, Led, ArcsUpTo}
 
 pub kept : (l : List ℕ) (n v j : ℕ) → j < n → getD (set l n v) j 0 ≡ getD l j 0
@@ -35,3 +36,6 @@ arcs-more c n sources lates earlies x y z t l new = record {
       (λ a h. rw (kept sources n x a h, kept lates n y a h, kept earlies n z a h) (t .each a h))
       (rw (stored sources n x (omega (arith, t .long .0)), stored lates n y (omega (arith, t .long .1)), stored earlies n z (omega (arith, t .long .2))) new);
 }
+
+pub filled-more : {size : ℕ} {f : ℕ → ℕ} (xs : List ℕ) (i x : ℕ) → Filled size f xs i → i < size → x ≡ f i → Filled size f (set xs i x) (i + 1)
+filled-more xs i x t l new = fill-more l (ap (set xs i) new) t

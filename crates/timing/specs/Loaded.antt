@@ -9,6 +9,7 @@ use Rattle.ticks.specs.Raised.{RAISE, lower}
 use Rattle.flow.specs.Flow.{Side, late, early}
 use Rattle.circuit.specs.Circuit.{Circuit}
 use Rattle.circuit.specs.Clock.{isLatch, launch, weight}
+use Rattle.tables.proofs.Filled.{Filled}
 
 -- a synchronizer: its launch, raised, and 1 for a latch
 pub record Launched (c : Circuit) (i at mark : ℕ) : Type 0 where
@@ -22,6 +23,13 @@ pub record NodesUpTo (n : ℕ) (c : Circuit) (launches latches : List ℕ) : Typ
 
 abbrev pub LoadedNodes : Circuit → List ℕ → List ℕ → Type 0
 LoadedNodes c = NodesUpTo (c .synchronizers) c
+
+-- what is noted of the phases and of the synchronizers while the arcs are loaded
+pub record Noted (c : Circuit) (closings phases leasts greatests : List ℕ) : Type 0 where
+  pub closing : Filled 16 (c .closing) closings (c .phases)
+  pub phase : Filled 512 (c .phase) phases (c .synchronizers)
+  pub least : Filled 512 (c .least) leasts (c .synchronizers)
+  pub greatest : Filled 512 (c .greatest) greatests (c .synchronizers)
 
 -- an arc's weight, late or early, with a cycle added
 pub record Leads (s : Side) (c : Circuit) (a lead : ℕ) : Type 0 where
@@ -47,11 +55,20 @@ abbrev pub leadsOf : Side → List ℕ → List ℕ → List ℕ
 leadsOf late lates earlies = lates
 leadsOf early lates earlies = earlies
 
--- arcs before arc x enter synchronizers below i, all others do not
-pub record Splits (c : Circuit) (i x : ℕ) : Type 0 where
-  pub within : x ≤ c .arcs
-  pub below : (a : ℕ) → a < x → c .to a < i
-  pub above : (a : ℕ) → x ≤ a → a < c .arcs → i ≤ c .to a
+-- of m arcs, those before arc x enter synchronizers below i, all others do not
+pub record Splits (to : ℕ → ℕ) (m i x : ℕ) : Type 0 where
+  pub within : x ≤ m
+  pub below : (a : ℕ) → a < x → to a < i
+  pub above : (a : ℕ) → x ≤ a → a < m → i ≤ to a
+
+-- m arcs lie in the order of the synchronizers that they enter
+abbrev pub Sorted : (ℕ → ℕ) → ℕ → Type 0
+Sorted to m = (a b : ℕ) → a ≤ b → b < m → to a ≤ to b
+
+-- each of the table's first n places splits them
+pub record Firsts (to : ℕ → ℕ) (m n : ℕ) (first : List ℕ) : Type 0 where
+  pub long : length first ≡ 513
+  pub each : (i : ℕ) → i < n → Splits to m i (getD first i 0)
 
 -- the arcs into i are those from first i up to first (i + 1)
 pub record LoadedFirst (c : Circuit) (first : List ℕ) : Type 0 where
@@ -67,6 +84,11 @@ pub record Sized (sources lates earlies first launches latches : List ℕ) : Typ
   pub arcs : (length sources ≡ 2048) × (length lates ≡ 2048) × (length earlies ≡ 2048)
   pub firsts : length first ≡ 513
   pub nodes : (length launches ≡ 512) × (length latches ≡ 512)
+
+-- tables that have not been filled yet
+pub record Blank (target heads links : List ℕ) : Type 0 where
+  pub long : (length heads ≡ 512) × (length links ≡ 2048) × (length target ≡ 2048)
+  pub empty : (i : ℕ) → getD heads i 0 ≡ 0
 
 pub record Loaded (c : Circuit) (sources lates earlies first launches latches : List ℕ) : Type 0 where
   pub nodes : LoadedNodes c launches latches

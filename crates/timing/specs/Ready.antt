@@ -1,13 +1,9 @@
 -- What keeps the tables' walks within their bounds.
-use mathlib.Core.Path.{_≡_}
-use mathlib.Core.Bool.{Bool, cond}
 use mathlib.Core.List.{List}
 use Prim.Native.Nat.{ℕ, _≤_, _<_}
-use lib.ListN.{length, getD}
+use lib.ListN.{getD}
 use Rattle.ticks.specs.Raised.{RAISE}
-use Rattle.flow.specs.Flow.{Side}
-use Rattle.tables.specs.Held.{Tame}
-use Rattle.tables.specs.Net.{Net, departN, moves, anyOf, Shaped, Ranged}
+use Rattle.tables.specs.Net.{Net, Shaped, Ranged}
 
 -- each of the first m arcs leaves a node with a time that can be reckoned with
 pub record Reachable (source departs : List ℕ) (m : ℕ) : Type 0 where
@@ -22,11 +18,6 @@ pub record ReachableAt (source departs : List ℕ) (a : ℕ) : Type 0 where
   pub reachable : Reachable source departs arcs
   pub here : a < arcs
 
--- the tables of l nodes can be worked with for l rounds
-pub record Ready (s : Side) (n : Net) (l : ℕ) : Type 0 where
-  pub arcs : ℕ
-  pub tame : Tame s n l arcs
-
 -- l nodes can be worked with, where they depart at D
 pub record Works (n : Net) (D : ℕ → ℕ) (l : ℕ) : Type 0 where
   pub arcs : ℕ
@@ -38,10 +29,3 @@ pub record WorksAt (n : Net) (D : ℕ → ℕ) (i : ℕ) : Type 0 where
   pub nodes : ℕ
   pub works : Works n D nodes
   pub here : i < nodes
-
--- a round was worked out: the table holds what D leads to, the flag says whether a node moved, and those that did have its number
-pub record Rounded (s : Side) (n : Net) (l : ℕ) (D : ℕ → ℕ) (number : ℕ) (before : List ℕ) (flag : Bool) (table after : List ℕ) : Type 0 where
-  pub long : (length table ≡ 512) × (length after ≡ 512)
-  pub made : (i : ℕ) → i < l → getD table i 0 ≡ departN s n D i
-  pub moved : flag ≡ anyOf (moves s n D) l
-  pub noted : (i : ℕ) → i < l → getD after i 0 ≡ cond (moves s n D i) number (getD before i 0)

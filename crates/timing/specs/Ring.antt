@@ -1,51 +1,11 @@
--- What the search for a growing ring keeps: the arcs that gave the arrivals of each round, and the walk back over them.
+-- What the search for a growing ring keeps: the walk back over parents.
 use mathlib.Core.Path.{_≡_}
 use mathlib.Core.List.{List, [], _∷_, _++_}
 use mathlib.Core.Logic.{_≢_}
-use Prim.Native.Nat.{ℕ, zero, suc, _+_, _-_, _*_, _<_, _≤_}
+use Prim.Native.Nat.{ℕ, suc, _+_, _-_, _*_, _<_, _≤_}
 use lib.IntN.{ℤ, subℕ}
 use lib.ListN.{length, getD, take, drop}
-use Rattle.flow.specs.Flow.{late}
 pub use Rattle.flow.specs.Walk.{routeBack}
-use Rattle.tables.specs.Net.{Arcs, Net, timesOf, brought, best, departN, roundN}
-
--- of the arcs from `from` up to `to`, a brings the latest time
-pub record Taken (g : Arcs) (D : ℕ → ℕ) (from to a : ℕ) : Type 0 where
-  pub above : from ≤ a
-  pub below : a < to
-  pub brings : brought g D a ≡ best late g D from (to - from)
-
--- a gives node i its late arrival, where an arc leads in
-abbrev pub Gave : Net → (ℕ → ℕ) → ℕ → ℕ → Type 0
-Gave n D i a = n .first i < n .first (i + 1) → Taken (n .arcs) D (n .first i) (n .first (i + 1)) a
-
--- the table has, for each of k rounds and each of l nodes, the arc that gave the arrival
-abbrev pub Kept : Net → ℕ → ℕ → List ℕ → Type 0
-Kept n l k table = (r : ℕ) → r < k → (i : ℕ) → i < l → Gave n (roundN late n r) i (getD table (r * 512 + i) 0)
-
--- a table of l nodes has the late departures of round k
-abbrev pub AtRound : Net → ℕ → ℕ → List ℕ → Type 0
-AtRound n l k table = (i : ℕ) → i < l → timesOf table i ≡ roundN late n k i
-
--- round k, after departures D: those of i nodes after it, their arcs kept, and what was kept before as it was
-pub record Rounded (n : Net) (D : ℕ → ℕ) (k : ℕ) (before : List ℕ) (l : ℕ) (next after : List ℕ) : Type 0 where
-  pub departs : (i : ℕ) → i < l → getD next i 0 ≡ departN late n D i
-  pub gave : (i : ℕ) → i < l → Gave n D i (getD after (k * 512 + i) 0)
-  pub rest : (x : ℕ) → x < k * 512 → getD after x 0 ≡ getD before x 0
-  pub size : length after ≡ length before
-
--- round k raised node i
-abbrev pub Raised : Net → ℕ → ℕ → Type 0
-Raised n zero i = Unit {0}
-Raised n (suc k) i = roundN late n k i < roundN late n (suc k) i
-
--- the walk back from node u over the arcs kept of l rounds: each node is the source of the arc kept of the node before
-unfoldable pub nodeBack : List ℕ → (ℕ → ℕ) → ℕ → ℕ → ℕ → ℕ
-nodeBack kept source l u zero = u
-nodeBack kept source l u (suc d) = source (getD kept ((l - suc d) * 512 + nodeBack kept source l u d) 0)
-
-abbrev pub arcBack : List ℕ → (ℕ → ℕ) → ℕ → ℕ → ℕ → ℕ
-arcBack kept source l u d = getD kept ((l - suc d) * 512 + nodeBack kept source l u d) 0
 
 -- the first node that comes a second time
 pub record Repeats (node : ℕ → ℕ) (l first second : ℕ) : Type 0 where
@@ -53,6 +13,12 @@ pub record Repeats (node : ℕ → ℕ) (l first second : ℕ) : Type 0 where
   pub bound : second ≤ l
   pub same : node first ≡ node second
   pub fresh : (y : ℕ) → y < second → (x : ℕ) → x < y → node x ≢ node y
+
+-- each place before d is noted under its node, plus one, and nothing else is
+pub record Placed (node : ℕ → ℕ) (d : ℕ) (places : List ℕ) : Type 0 where
+  pub long : length places ≡ 512
+  pub noted : (x : ℕ) → x < d → getD places (node x) 0 ≡ x + 1
+  pub real : (i x : ℕ) → getD places i 0 ≡ x + 1 → (x < d) × (node x ≡ i)
 
 -- of the places after `first`, up to `second`, `low` has the lowest node
 pub record Lowest (node : ℕ → ℕ) (first second low : ℕ) : Type 0 where
@@ -83,3 +49,27 @@ pub record Turned (node arc lead : ℕ → ℕ) (cycle l count : ℕ) (total : �
   pub counted : count ≡ second - first
   pub gains : total ≡ subℕ (leads lead (turned arc first low second)) ((second - first) * cycle)
   pub written : after ≡ turned arc first low second ++ drop (second - first) before
+
+-- a walk back over parents from u: d arcs, each from a node that departs after its launch
+pub record Climbs (source parents launch departs : ℕ → ℕ) (l u d : ℕ) (nodes trail : ℕ → ℕ) (node : ℕ) : Type 0 where
+  pub few : d ≤ l
+  pub here : node < l
+  pub start : d ≡ 0 → node ≡ u
+  pub begin : 0 < d → nodes 0 ≡ u
+  pub small : (x : ℕ) → x < d → nodes x < l
+  pub raised : (x : ℕ) → x < d → departs (nodes x) ≡ launch (nodes x) → ⊥
+  pub arc : (x : ℕ) → x < d → trail x ≡ parents (nodes x)
+  pub onto : (x : ℕ) → suc x < d → source (trail x) ≡ nodes (suc x)
+  pub last : (x : ℕ) → suc x ≡ d → source (trail x) ≡ node
+
+-- it came to an end: after l arcs, or at a node that departs at its launch
+pub record Climbed (source parents launch departs : ℕ → ℕ) (l u d : ℕ) (nodes trail : ℕ → ℕ) : Type 0 where
+  pub walk : Climbs source parents launch departs l u d nodes trail (nodes d)
+  pub ends : d < l → departs (nodes d) ≡ launch (nodes d)
+
+-- the walk of l arcs back from u, and its first closed stretch written out
+pub record Looped (source parents launch departs lead : ℕ → ℕ) (cycle l u count : ℕ) (total : ℤ) (before after : List ℕ) : Type 0 where
+  pub nodes : ℕ → ℕ
+  pub trail : ℕ → ℕ
+  pub walk : Climbs source parents launch departs l u l nodes trail (nodes l)
+  pub turned : Turned nodes trail lead cycle l count total before after

@@ -44,7 +44,7 @@ pub(crate) fn bring(
     requires { ⌜ a < 2048 ⌝ }
     requires { ⌜ getD (now source) a 0 < 512 ⌝ }
     requires { ⌜ (RAISE ≤ getD (now departs) (getD (now source) a 0) 0) × (getD (now departs) (getD (now source) a 0) 0 < 4611686018427387904) ⌝ }
-    ensures { λ r. ⌜ r ≡ brought (arcsOf (now (source .entry)) (now (lead .entry)) cycle) (timesOf (now (departs .entry))) a ⌝ }
+    ensures { λ r. ⌜ (r ≡ brought (arcsOf (now (source .entry)) (now (lead .entry)) cycle) (timesOf (now (departs .entry))) a) × (r < 9223372036854775808) ⌝ }
 {
     let from = source[a] as usize;
     departs[from] + wide(lead[a]) - wide(cycle)

@@ -7,16 +7,18 @@ ghost use Rattle.image.specs.Checks.{checkOf};
 ghost use Rattle.circuit.specs.Circuit.{circuitOf};
 ghost use Rattle.image.specs.Valid.{Valid, imageIn};
 ghost use Rattle.image.specs.declared.checks.Checked.the-variants as check;
-ghost use Rattle.timing.specs.Loaded.{Sized, Loaded};
+ghost use Rattle.tables.specs.Net.{timesOf};
+ghost use Rattle.tables.specs.Listing.{Onward};
+ghost use Rattle.timing.specs.Loaded.{Sized, Blank, Loaded};
 ghost use Rattle.timing.specs.Promise.{Served, Timing};
 ghost use Rattle.timing.specs.Told.{Known, Told};
-use crate::load::load_arcs;
+use crate::climb::rise;
 use crate::load::load_first;
-use crate::load::load_nodes;
+use crate::load::load_records;
+use crate::onward::link;
 use crate::results::Missed;
 use crate::results::write_results;
-use crate::ring::find;
-use crate::rounds::settle;
+use crate::ring::close;
 use image::Checked;
 use image::Image;
 
@@ -38,14 +40,21 @@ pub(crate) fn load(
     first: &mut [u16; 513],
     launch: &mut [u64; 512],
     latch: &mut [u8; 512],
+    target: &mut [u16; 2048],
+    heads: &mut [u16; 512],
+    links: &mut [u16; 2048],
 )
     requires { ⌜ Valid (now bytes) × (image ≡ imageIn (now bytes)) ⌝ }
     requires { ⌜ Sized (now source) (now late) (now early) (now first) (now launch) (now latch) ⌝ }
+    requires { ⌜ Blank (now target) (now heads) (now links) ⌝ }
     ensures { λ _. ⌜ Loaded (circuitOf (now (bytes .entry))) (now (source .exit)) (now (late .exit)) (now (early .exit)) (now (first .exit)) (now (launch .exit)) (now (latch .exit)) ⌝ }
+    ensures { λ _. ⌜ Onward (timesOf (now (source .exit))) (timesOf (now (first .exit))) (image .synchronizers) (image .arcs) (timesOf (now (target .exit))) (timesOf (now (heads .exit))) (timesOf (now (links .exit))) ⌝ }
 {
-    load_nodes(bytes, image, launch, latch);
-    load_arcs(bytes, image, source, late, early);
-    load_first(bytes, image, first);
+    load_records(bytes, image, source, late, early, launch, latch, target);
+    let l = image.synchronizers as usize;
+    let m = image.arcs as usize;
+    load_first(target, l, m, first);
+    link(source, m, heads, links);
 }
 
 // Where the late departures are known: works the early ones out, and writes the results.
@@ -58,16 +67,22 @@ fn tell(
     first: &[u16; 513],
     launch: &[u64; 512],
     latch: &[u8; 512],
+    target: &[u16; 2048],
+    heads: &[u16; 512],
+    links: &[u16; 2048],
     later: &[u64; 512],
     results: &mut [i64],
 ) -> Missed
     requires { ⌜ Valid (now bytes) × (image ≡ imageIn (now bytes)) ⌝ }
     requires { ⌜ Loaded (circuitOf (now bytes)) (now source) (now late) (now early) (now first) (now launch) (now latch) ⌝ }
+    requires { ⌜ Onward (timesOf (now source)) (timesOf (now first)) (image .synchronizers) (image .arcs) (timesOf (now target)) (timesOf (now heads)) (timesOf (now links)) ⌝ }
     requires { ⌜ Known side.late (circuitOf (now bytes)) (now later) ⌝ }
     requires { ⌜ 6 * image .synchronizers ≤ length (now results) ⌝ }
     ensures { λ r. ⌜ Told (circuitOf (now (bytes .entry))) (now (later .entry)) (now (results .entry)) (now (results .exit)) r ⌝ }
 {
-    let sooner = settle(
+    let mut starts = *launch;
+    let mut roots = [0u16; 512];
+    rise(
         false,
         source,
         early,
@@ -75,9 +90,14 @@ fn tell(
         first,
         launch,
         latch,
+        heads,
+        links,
+        target,
         image.synchronizers as usize,
+        image.arcs as usize,
+        &mut starts,
+        &mut roots,
     );
-    let starts = sooner.departs;
     write_results(
         bytes,
         image,
@@ -101,23 +121,53 @@ fn decide(
     first: &[u16; 513],
     launch: &[u64; 512],
     latch: &[u8; 512],
+    target: &[u16; 2048],
+    heads: &[u16; 512],
+    links: &[u16; 2048],
     results: &mut [i64],
     arcs: &mut [u32],
 ) -> Answer
     requires { ⌜ Served (now bytes) (now results) (now arcs) ⌝ }
     requires { ⌜ image ≡ imageIn (now bytes) ⌝ }
     requires { ⌜ Loaded (circuitOf (now bytes)) (now source) (now late) (now early) (now first) (now launch) (now latch) ⌝ }
+    requires { ⌜ Onward (timesOf (now source)) (timesOf (now first)) (image .synchronizers) (image .arcs) (timesOf (now target)) (timesOf (now heads)) (timesOf (now links)) ⌝ }
     ensures { λ r. ⌜ Timing (now (bytes .entry)) (now (results .entry)) (now (arcs .entry)) r (now (results .exit)) (now (arcs .exit)) ⌝ }
 {
     let cycle = image.cycle;
     let l = image.synchronizers as usize;
-    let later = settle(true, source, late, cycle, first, launch, latch, l);
+    let m = image.arcs as usize;
+    let mut ends = *launch;
+    let mut roots = [0u16; 512];
+    let later = rise(
+        true,
+        source,
+        late,
+        cycle,
+        first,
+        launch,
+        latch,
+        heads,
+        links,
+        target,
+        l,
+        m,
+        &mut ends,
+        &mut roots,
+    );
     if !later.done {
-        let m = image.arcs as usize;
-        let shown = find(source, late, cycle, first, launch, latch, l, m, arcs);
+        let shown = close(
+            source,
+            late,
+            cycle,
+            launch,
+            &ends,
+            &roots,
+            l,
+            later.last,
+            arcs,
+        );
         return Answer::Growing(shown.count, shown.gain);
     }
-    let ends = later.departs;
     let missed = tell(
         bytes,
         image,
@@ -127,6 +177,9 @@ fn decide(
         first,
         launch,
         latch,
+        target,
+        heads,
+        links,
         &ends,
         results,
     );
@@ -145,6 +198,9 @@ fn work(bytes: &[u8], image: Image, results: &mut [i64], arcs: &mut [u32]) -> An
     let mut first = [0u16; 513];
     let mut launch = [0u64; 512];
     let mut latch = [0u8; 512];
+    let mut target = [0u16; 2048];
+    let mut heads = [0u16; 512];
+    let mut links = [0u16; 2048];
     load(
         bytes,
         image,
@@ -154,6 +210,9 @@ fn work(bytes: &[u8], image: Image, results: &mut [i64], arcs: &mut [u32]) -> An
         &mut first,
         &mut launch,
         &mut latch,
+        &mut target,
+        &mut heads,
+        &mut links,
     );
     decide(
         bytes,
@@ -164,6 +223,9 @@ fn work(bytes: &[u8], image: Image, results: &mut [i64], arcs: &mut [u32]) -> An
         &first,
         &launch,
         &latch,
+        &target,
+        &heads,
+        &links,
         results,
         arcs,
     )

@@ -3,10 +3,14 @@
 mod arrive;
 mod ask;
 mod call;
+mod climb;
+mod lists;
 mod load;
+mod onward;
+mod order;
+mod ranks;
 mod results;
 mod ring;
-mod rounds;
 mod signed;
 mod trail;
 

@@ -1,24 +1,17 @@
-// A growing ring. The late rounds are run again, and for each round and each synchronizer an arc is kept that gave the arrival. From a
-// synchronizer that the last round changed a walk goes back over these arcs, an arc for each round. It passes more places than there are
-// synchronizers, so one comes up again: the arcs between are the ring. (The count of arcs, m, is passed for the contracts alone.)
+// A growing ring. Each raised synchronizer has a parent, the arc that raised it last. From one that the last pass raised a walk goes back over
+// parents. It passes more places than there are synchronizers, so one comes up again: the arcs between are the ring.
 ghost use mathlib.Core.Path.{_≡_};
 ghost use mathlib.Core.List.{_++_};
-ghost use mathlib.Core.Logic.{_≢_};
 ghost use Prim.Native.Nat.{ℕ, _+_, _-_, _*_, _≤_, _<_};
 ghost use lib.IntN.{subℕ};
 ghost use lib.ListN.{length, getD, drop};
-ghost use Rattle.flow.specs.Flow.{Flow, late};
-ghost use Rattle.tables.specs.Net.{timesOf, arcsOf, netOf, departN, Shaped, Ranged};
-ghost use Rattle.tables.specs.Held.{Held, Tame, Unsettled};
-ghost use Rattle.flow.specs.Walk.{Shown};
-ghost use Rattle.timing.specs.Ready.{Reachable};
-ghost use Rattle.timing.specs.Ring.{Taken, Gave, Kept, AtRound, Rounded, Raised, nodeBack, arcBack, Repeats, Lowest, routeBack, written, leads, turned, Turned};
-use crate::arrive::bring;
+ghost use Rattle.tables.specs.Net.{timesOf};
+ghost use Rattle.tables.specs.Parents.{ParentsIn};
+ghost use Rattle.timing.specs.Ring.{Repeats, Lowest, routeBack, written, leads, turned, Turned, Climbed, Looped};
 use crate::arrive::counted;
 use crate::arrive::index;
 use crate::arrive::narrow;
 use crate::arrive::wide;
-use crate::rounds::departure;
 use crate::signed::minus;
 
 pub(crate) struct Ring {
@@ -26,232 +19,28 @@ pub(crate) struct Ring {
     pub(crate) gain: i64,
 }
 
-// A departure, and the arc that gave the arrival
-struct At {
-    arc: u16,
-    time: u64,
-}
-
-// Of the arcs from `from` up to `to`, the first that brings the latest time, or 0 where there is no arc.
-fn via(
-    source: &[u16; 2048],
-    lead: &[u32; 2048],
-    cycle: u32,
-    departs: &[u64; 512],
-    from: usize,
-    to: usize,
-) -> usize
-    requires { ⌜ from ≤ to ⌝ }
-    requires { ⌜ Reachable (now source) (now departs) to ⌝ }
-    ensures { λ r. ⌜ (from < to → Taken (arcsOf (now (source .entry)) (now (lead .entry)) cycle) (timesOf (now (departs .entry))) from to r) ⌝ }
-    ensures { λ r. ⌜ r < 2048 ⌝ }
-{
-    let mut most: u64 = 0;
-    let mut arc: usize = 0;
-    let mut a = from;
-    while a < to {
-        let t = bring(source, lead, cycle, departs, a);
-        if most < t {
-            most = t;
-            arc = a;
-        }
-        a += 1;
-    }
-    arc
-}
-
-// One round at one synchronizer: its departure, and the arc that gave its arrival
-fn depart(
-    source: &[u16; 2048],
-    lead: &[u32; 2048],
-    cycle: u32,
-    first: &[u16; 513],
-    launch: &[u64; 512],
-    latch: &[u8; 512],
-    l: usize,
-    m: usize,
-    departs: &[u64; 512],
-    i: usize,
-) -> At
-    requires { ⌜ Shaped (netOf (arcsOf (now source) (now lead) cycle) (now first) (now launch) (now latch)) l m ⌝ }
-    requires { ⌜ Ranged l (timesOf (now departs)) ⌝ }
-    requires { ⌜ i < l ⌝ }
-    ensures { λ r. ⌜ r .time ≡ departN late (netOf (arcsOf (now (source .entry)) (now (lead .entry)) cycle) (now (first .entry)) (now (launch .entry)) (now (latch .entry))) (timesOf (now (departs .entry))) i ⌝ }
-    ensures { λ r. ⌜ (Gave (netOf (arcsOf (now (source .entry)) (now (lead .entry)) cycle) (now (first .entry)) (now (launch .entry)) (now (latch .entry))) (timesOf (now (departs .entry))) i (r .arc)) ⌝ }
-{
-    let from = index(first[i]);
-    let to = index(first[i + 1]);
-    let arc = via(source, lead, cycle, departs, from, to);
-    At {
-        arc: narrow(arc),
-        time: departure(true, source, lead, cycle, first, launch, latch, departs, i),
-    }
-}
-
-// Where the table of kept arcs has synchronizer i in round k
-fn place(k: usize, i: usize) -> usize
-    requires { ⌜ (k < 512) × (i < 512) ⌝ }
-    ensures { λ r. ⌜ (r ≡ k * 512 + i) × (r < 262144) ⌝ }
-{
-    k * 512 + i
-}
-
-// One round more, number k. It keeps its arcs.
-fn round(
-    source: &[u16; 2048],
-    lead: &[u32; 2048],
-    cycle: u32,
-    first: &[u16; 513],
-    launch: &[u64; 512],
-    latch: &[u8; 512],
-    l: usize,
-    m: usize,
-    departs: &[u64; 512],
-    k: usize,
-    kept: &mut [u16; 262144],
-) -> [u64; 512]
-    requires { ⌜ Shaped (netOf (arcsOf (now source) (now lead) cycle) (now first) (now launch) (now latch)) l m ⌝ }
-    requires { ⌜ Ranged l (timesOf (now departs)) ⌝ }
-    requires { ⌜ k < 512 ⌝ }
-    requires { ⌜ length (now kept) ≡ 262144 ⌝ }
-    ensures { λ r. ⌜ Rounded (netOf (arcsOf (now (source .entry)) (now (lead .entry)) cycle) (now (first .entry)) (now (launch .entry)) (now (latch .entry))) (timesOf (now (departs .entry))) k (now (kept .entry)) l r (now (kept .exit)) ⌝ }
-{
-    let mut next = [0u64; 512];
-    let mut i = 0;
-    while i < l {
-        let t = depart(source, lead, cycle, first, launch, latch, l, m, departs, i);
-        next[i] = t.time;
-        kept[place(k, i)] = t.arc;
-        i += 1;
-    }
-    next
-}
-
-// Rounds from the launches on. They keep their arcs.
-fn rounds(
-    source: &[u16; 2048],
-    lead: &[u32; 2048],
-    cycle: u32,
-    first: &[u16; 513],
-    launch: &[u64; 512],
-    latch: &[u8; 512],
-    l: usize,
-    m: usize,
-    count: usize,
-    kept: &mut [u16; 262144],
-) -> [u64; 512]
-    requires { ⌜ Tame late (netOf (arcsOf (now source) (now lead) cycle) (now first) (now launch) (now latch)) l m ⌝ }
-    requires { ⌜ count ≤ l ⌝ }
-    requires { ⌜ length (now kept) ≡ 262144 ⌝ }
-    ensures { λ r. ⌜ (AtRound (netOf (arcsOf (now (source .entry)) (now (lead .entry)) cycle) (now (first .entry)) (now (launch .entry)) (now (latch .entry))) l count r) ⌝ }
-    ensures { λ r. ⌜ (Kept (netOf (arcsOf (now (source .entry)) (now (lead .entry)) cycle) (now (first .entry)) (now (launch .entry)) (now (latch .entry))) l count (now (kept .exit))) ⌝ }
-    ensures { λ r. ⌜ length (now (kept .exit)) ≡ 262144 ⌝ }
-{
-    let mut departs = *launch;
-    let mut k = 0;
-    while k < count {
-        departs = round(
-            source,
-            lead,
-            cycle,
-            first,
-            launch,
-            latch,
-            l,
-            m,
-            &departs,
-            k,
-            kept,
-        );
-        k += 1;
-    }
-    departs
-}
-
-// The first synchronizer at which two tables differ, or l
-fn changed(before: &[u64; 512], after: &[u64; 512], l: usize) -> usize
-    requires { ⌜ l ≤ 512 ⌝ }
-    ensures { λ r. ⌜ r ≤ l ⌝ }
-    ensures { λ r. ⌜ ((i : ℕ) → i < r → getD (now (before .entry)) i 0 ≡ getD (now (after .entry)) i 0) ⌝ }
-    ensures { λ r. ⌜ (r < l → getD (now (before .entry)) r 0 ≢ getD (now (after .entry)) r 0) ⌝ }
-{
-    let mut i = 0;
-    while i < l {
-        if before[i] != after[i] {
-            return i;
-        }
-        i += 1;
-    }
-    i
-}
-
-// The walk back over the kept arcs, from synchronizer u, which the last round changed
-fn trace(
-    source: &[u16; 2048],
-    kept: &[u16; 262144],
-    l: usize,
-    u: usize,
-    nodes: &mut [u16; 513],
-    trail: &mut [u16; 512],
-)
-    requires { ⌜ l ≤ 512 ⌝ }
-    requires { ⌜ u < l ⌝ }
-    requires { ⌜ (length (now nodes) ≡ 513) × (length (now trail) ≡ 512) ⌝ }
-    requires { ⌜ ((d : ℕ) → d < l → nodeBack (now kept) (timesOf (now source)) l u d < l) ⌝ }
-    requires { ⌜ ((d : ℕ) → d < l → arcBack (now kept) (timesOf (now source)) l u d < 2048) ⌝ }
-    ensures { λ _. ⌜ ((d : ℕ) → d ≤ l → getD (now (nodes .exit)) d 0 ≡ nodeBack (now (kept .entry)) (timesOf (now (source .entry))) l u d) ⌝ }
-    ensures { λ _. ⌜ ((d : ℕ) → d < l → getD (now (trail .exit)) d 0 ≡ arcBack (now (kept .entry)) (timesOf (now (source .entry))) l u d) ⌝ }
-{
-    let mut node = narrow(u);
-    let mut d = 0;
-    while d < l {
-        nodes[d] = node;
-        let arc = kept[place(l - 1 - d, index(node))];
-        trail[d] = arc;
-        node = source[index(arc)];
-        d += 1;
-    }
-    nodes[l] = node;
-}
-
-// The first place before d that has the node, or d
-fn seen(nodes: &[u16; 513], d: usize, node: u16) -> usize
-    requires { ⌜ d ≤ 513 ⌝ }
-    ensures { λ r. ⌜ r ≤ d ⌝ }
-    ensures { λ r. ⌜ ((x : ℕ) → x < r → getD (now (nodes .entry)) x 0 ≢ node) ⌝ }
-    ensures { λ r. ⌜ (r < d → getD (now (nodes .entry)) r 0 ≡ node) ⌝ }
-{
-    let mut x = 0;
-    while x < d {
-        if nodes[x] == node {
-            return x;
-        }
-        x += 1;
-    }
-    x
-}
-
 struct Stretch {
     first: usize,
     second: usize,
 }
 
-// The first node that comes a second time: more nodes are walked than there are.
+// The first node that comes a second time: more nodes are walked than there are. A node that has come has its place noted, plus one.
 fn repeat(nodes: &[u16; 513], l: usize) -> Stretch
     requires { ⌜ l ≤ 512 ⌝ }
     requires { ⌜ ((d : ℕ) → d ≤ l → getD (now nodes) d 0 < l) ⌝ }
     ensures { λ r. ⌜ Repeats (timesOf (now (nodes .entry))) l (r .first) (r .second) ⌝ }
 {
+    let mut places = [0u16; 512];
     let mut d = 0;
     while d <= l {
-        let x = seen(nodes, d, nodes[d]);
-        if x < d {
-            return Stretch {
-                first: x,
-                second: d,
-            };
+        let node = index(nodes[d]);
+        let place = index(places[node]);
+        if place > 0 {
+            let first = place - 1;
+            return Stretch { first, second: d };
         }
         d += 1;
+        places[node] = narrow(d);
     }
     Stretch {
         first: 0,
@@ -371,64 +160,69 @@ fn show(
     }
 }
 
-// Runs the late rounds again and keeps their arcs. Finds a synchronizer that the last round raised.
-fn replay(
+// The walk back over parents, from synchronizer u. Says over how many arcs it went: l, or fewer where it came to one that departs at its
+// launch.
+fn follow(
     source: &[u16; 2048],
-    lead: &[u32; 2048],
-    cycle: u32,
-    first: &[u16; 513],
     launch: &[u64; 512],
-    latch: &[u8; 512],
+    departs: &[u64; 512],
+    parents: &[u16; 512],
     l: usize,
-    m: usize,
-    kept: &mut [u16; 262144],
+    u: usize,
+    nodes: &mut [u16; 513],
+    trail: &mut [u16; 512],
 ) -> usize
-    requires { ⌜ Tame late (netOf (arcsOf (now source) (now lead) cycle) (now first) (now launch) (now latch)) l m ⌝ }
-    requires { ⌜ Unsettled late (netOf (arcsOf (now source) (now lead) cycle) (now first) (now launch) (now latch)) l ⌝ }
-    requires { ⌜ length (now kept) ≡ 262144 ⌝ }
-    ensures { λ r. ⌜ r < l ⌝ }
-    ensures { λ r. ⌜ Raised (netOf (arcsOf (now (source .entry)) (now (lead .entry)) cycle) (now (first .entry)) (now (launch .entry)) (now (latch .entry))) l r ⌝ }
-    ensures { λ r. ⌜ (Kept (netOf (arcsOf (now (source .entry)) (now (lead .entry)) cycle) (now (first .entry)) (now (launch .entry)) (now (latch .entry))) l l (now (kept .exit))) ⌝ }
+    requires { ⌜ (l ≤ 512) × (u < l) ⌝ }
+    requires { ⌜ (length (now nodes) ≡ 513) × (length (now trail) ≡ 512) ⌝ }
+    requires { ⌜ ParentsIn (timesOf (now source)) (timesOf (now parents)) (timesOf (now launch)) (timesOf (now departs)) l ⌝ }
+    ensures { λ r. ⌜ Climbed (timesOf (now (source .entry))) (timesOf (now (parents .entry))) (timesOf (now (launch .entry))) (timesOf (now (departs .entry))) l u r (timesOf (now (nodes .exit))) (timesOf (now (trail .exit))) ⌝ }
 {
-    let last = l - 1;
-    let before = rounds(source, lead, cycle, first, launch, latch, l, m, last, kept);
-    let after = round(
-        source,
-        lead,
-        cycle,
-        first,
-        launch,
-        latch,
-        l,
-        m,
-        &before,
-        last,
-        kept,
-    );
-    changed(&before, &after, l)
+    let mut node = narrow(u);
+    let mut d: usize = 0;
+    while d < l {
+        nodes[d] = node;
+        let i = index(node);
+        if departs[i] == launch[i] {
+            return d;
+        }
+        let arc = parents[i];
+        trail[d] = arc;
+        node = source[index(arc)];
+        d += 1;
+    }
+    nodes[d] = node;
+    d
 }
 
-// A growing ring of tables whose late rounds still change in round l: its arcs into the buffer, from the lowest-numbered synchronizer on.
-pub(crate) fn find(
+// A growing ring, where the walk back over parents from synchronizer u never comes to a launch: its arcs into the buffer, from the
+// lowest-numbered synchronizer on.
+pub(crate) fn close(
     source: &[u16; 2048],
     lead: &[u32; 2048],
     cycle: u32,
-    first: &[u16; 513],
     launch: &[u64; 512],
-    latch: &[u8; 512],
+    departs: &[u64; 512],
+    parents: &[u16; 512],
     l: usize,
-    m: usize,
+    u: usize,
     arcs: &mut [u32],
 ) -> Ring
-    requires { ⌜ Tame late (netOf (arcsOf (now source) (now lead) cycle) (now first) (now launch) (now latch)) l m ⌝ }
-    requires { ⌜ Unsettled late (netOf (arcsOf (now source) (now lead) cycle) (now first) (now launch) (now latch)) l ⌝ }
-    requires { ⌜ l ≤ length (now arcs) ⌝ }
-    ensures { λ r. ⌜ ((f : Flow) → Held late (netOf (arcsOf (now (source .entry)) (now (lead .entry)) cycle) (now (first .entry)) (now (launch .entry)) (now (latch .entry))) l m f → Shown f (r .count) (r .gain) (now (arcs .entry)) (now (arcs .exit))) ⌝ }
+    requires { ⌜ (l ≤ 512) × (u < l) × (l ≤ length (now arcs)) ⌝ }
+    requires { ⌜ ParentsIn (timesOf (now source)) (timesOf (now parents)) (timesOf (now launch)) (timesOf (now departs)) l ⌝ }
+    requires { ⌜ ((d : ℕ) (nodes trail : ℕ → ℕ) → Climbed (timesOf (now source)) (timesOf (now parents)) (timesOf (now launch)) (timesOf (now departs)) l u d nodes trail → d ≡ l) ⌝ }
+    ensures { λ r. ⌜ Looped (timesOf (now (source .entry))) (timesOf (now (parents .entry))) (timesOf (now (launch .entry))) (timesOf (now (departs .entry))) (timesOf (now (lead .entry))) cycle l u (r .count) (r .gain) (now (arcs .entry)) (now (arcs .exit)) ⌝ }
 {
-    let mut kept = [0u16; 262144];
-    let u = replay(source, lead, cycle, first, launch, latch, l, m, &mut kept);
     let mut nodes = [0u16; 513];
     let mut trail = [0u16; 512];
-    trace(source, &kept, l, u, &mut nodes, &mut trail);
+    follow(
+        source,
+        launch,
+        departs,
+        parents,
+        l,
+        u,
+        &mut nodes,
+        &mut trail,
+    );
     show(lead, cycle, &nodes, &trail, l, arcs)
 }

@@ -49,7 +49,7 @@ loop-again c =
     let g = arcsOf (x .source .now) (x .lead .now) (x .cycle) in
     let D = timesOf (x .departs .now) in
     let l = c .before .before .before .loop in
-    (omega arith, omega arith, rw (best-more s g D (x .from) (l .a) (l .inv .0), ← l .inv .2, ← c .before .bring .ensures) (c .choose .ensures))
+    (omega arith, omega arith, rw (best-more s g D (x .from) (l .a) (l .inv .0), ← l .inv .2, ← c .before .bring .ensures .0) (c .choose .ensures))
 
 returns : tie.Need-returns Inv-loop μ-loop
 returns c =

@@ -1,4 +1,5 @@
 -- `seek`: no arc leads in, or the late rounds do not settle, or the path is traced.
+use mathlib.Core.Path.{refl}
 use native.Mathlib.Omega.{arith}
 use borrow.Author.Tests.{not-true, not-false}
 use lib.ListN.{getD}
@@ -7,8 +8,9 @@ use Rattle.flow.specs.Flow.{late}
 use Rattle.circuit.proofs.Sound.{sound}
 use Rattle.timing.specs.Paths.{unentered, growing}
 use Rattle.timing.proofs.Read.{counts}
-use Rattle.timing.proofs.Work.{ready, known, reckoned, moving}
-use Rattle.timing.proofs.Asking.{none-in, some-in, first-in, ring-grows, traceable, path-found}
+use Rattle.tables.specs.Net.{timesOf}
+use Rattle.timing.proofs.Work.{passable, shape, climbed-known}
+use Rattle.timing.proofs.Asking.{none-in, some-in, first-in, ring-grows, ranks-are, traceable, path-found}
 use borrow.Author.Needs.{needs}
 use Rattle.timing.proofs.ask.seek.Statement.{statement}
 use Rattle.timing.proofs.ask.seek.Tie as tie
@@ -33,40 +35,51 @@ returns c =
     let x = c .before .before .before .before .before .args in
     let p = c .before .before .before .before .before .pre in
     let v = accepts (x .bytes .now) .1 (p .0 .good) in
-    unentered (p .0) (none-in (x .bytes .now) v (x .image) (p .1 .0) (x .source .now) (x .late .now) (x .early .now) (x .first .now) (x .launch .now) (x .latch .now) (p .1 .1) (x .i) (p .0 .inside) (c .if1 .taken))
+    unentered (p .0) (none-in (x .bytes .now) v (x .image) (p .1 .0) (x .source .now) (x .late .now) (x .early .now) (x .first .now) (x .launch .now) (x .latch .now) (p .1 .1 .0) (x .i) (p .0 .inside) (c .if1 .taken))
 
 cast-l : tie.Need-cast-l
 cast-l c = search needs
 
-settle-requires : tie.Need-settle-requires
-settle-requires c κs =
-    let x = c .before .before .before .before .before .before .args in
-    let p = c .before .before .before .before .before .before .pre in
+cast-m : tie.Need-cast-m
+cast-m c = search needs
+
+rise-requires : tie.Need-rise-requires
+rise-requires c κs =
+    let x = c .before .before .before .before .before .before .before .before .before .before .args in
+    let p = c .before .before .before .before .before .before .before .before .before .before .pre in
     let v = accepts (x .bytes .now) .1 (p .0 .good) in
-    (ready (x .bytes .now) v (x .image) (p .1 .0) (x .source .now) (x .late .now) (x .early .now) (x .first .now) (x .launch .now) (x .latch .now) (p .1 .1) late, p .1 .1 .nodes .long .0)
+    (passable (x .bytes .now) v (x .image) (p .1 .0) (x .source .now) (x .late .now) (x .early .now) (x .first .now) (x .launch .now) (x .latch .now) (p .1 .1 .0) late (timesOf (x .target .now)) (timesOf (x .heads .now)) (timesOf (x .links .now)) (p .1 .1 .1), (p .1 .1 .0 .nodes .long .0, (refl, refl)))
 
 returns-2 : tie.Need-returns-2
 returns-2 c =
-    let x = c .before .before .before .before .before .before .before .before .before .args in
-    let p = c .before .before .before .before .before .before .before .before .before .pre in
+    let x = c .before .before .before .before .before .before .before .before .before .before .before .before .before .args in
+    let p = c .before .before .before .before .before .before .before .before .before .before .before .before .before .pre in
     let v = accepts (x .bytes .now) .1 (p .0 .good) in
-    let s = c .before .before .settle in
-    let e = some-in (x .bytes .now) v (x .image) (p .1 .0) (x .source .now) (x .late .now) (x .early .now) (x .first .now) (x .launch .now) (x .latch .now) (p .1 .1) (x .i) (p .0 .inside) (c .before .before .before .before .if1 .left) in
-    let a = first-in (x .bytes .now) v (x .image) (p .1 .0) (x .source .now) (x .late .now) (x .early .now) (x .first .now) (x .launch .now) (x .latch .now) (p .1 .1) (x .i) (p .0 .inside) e in
+    let e = some-in (x .bytes .now) v (x .image) (p .1 .0) (x .source .now) (x .late .now) (x .early .now) (x .first .now) (x .launch .now) (x .latch .now) (p .1 .1 .0) (x .i) (p .0 .inside) (c .before .before .before .before .before .before .before .before .if1 .left) in
+    let a = first-in (x .bytes .now) v (x .image) (p .1 .0) (x .source .now) (x .late .now) (x .early .now) (x .first .now) (x .launch .now) (x .latch .now) (p .1 .1 .0) (x .i) (p .0 .inside) e in
+    let n = counts (x .bytes .now) (x .image) (p .1 .0) in
     growing (getD (x .first .now) (x .i) 0) (p .0) (a .0) (a .1)
-    (ring-grows (x .bytes .now) v (x .image) (p .1 .0) (x .source .now) (x .late .now) (x .early .now) (x .first .now) (x .launch .now) (x .latch .now) (p .1 .1) (moving (x .bytes .now) v (x .image) (p .1 .0) (x .source .now) (x .late .now) (x .early .now) (x .first .now) (x .launch .now) (x .latch .now) (p .1 .1) late (s .result .departs) (s .result .ranks) (not-true _ (c .if2 .taken)) (s .ensures)))
+    (ring-grows (x .bytes .now) v (x .image) (p .1 .0) (x .source .now) (x .late .now) (x .early .now) (x .first .now) (x .launch .now) (x .latch .now) (p .1 .1 .0) (timesOf (x .target .now)) (timesOf (x .heads .now)) (timesOf (x .links .now)) (c .before .before .rise .last .1 .1 .1 .1 .1 .1 .1 .1 .1 .1 .1 .1 .0) (c .before .before .rise .last .1 .1 .1 .1 .1 .1 .1 .1 .1 .1 .1 .1 .1 .0) (c .before .before .rise .result .last) (c .before .before .rise .ensures) (not-true _ (c .if2 .taken)) (omega (arith, n .synchronizers, p .0 .inside)))
 
-trace-requires : tie.Need-trace-requires
-trace-requires c κs =
+rank-all-requires : tie.Need-rank-all-requires
+rank-all-requires c κs =
     let x = c .before .before .before .before .before .before .before .before .before .before .before .before .before .before .args in
     let p = c .before .before .before .before .before .before .before .before .before .before .before .before .before .before .pre in
     let v = accepts (x .bytes .now) .1 (p .0 .good) in
-    let s = c .before .before .before .before .before .before .before .settle in
-    let k = known (x .bytes .now) v (x .image) (p .1 .0) (x .source .now) (x .late .now) (x .early .now) (x .first .now) (x .launch .now) (x .latch .now) (p .1 .1) late (s .result .departs) (s .result .ranks) (not-false _ (c .before .before .before .before .before .if2 .left)) (s .ensures) in
-    let r = reckoned (x .bytes .now) v (x .image) (p .1 .0) (x .source .now) (x .late .now) (x .early .now) (x .first .now) (x .launch .now) (x .latch .now) (p .1 .1) late (s .result .departs) (s .result .ranks) (not-false _ (c .before .before .before .before .before .if2 .left)) (s .ensures) in
+    let k = climbed-known (x .bytes .now) v (x .image) (p .1 .0) (x .source .now) (x .late .now) (x .early .now) (x .first .now) (x .launch .now) (x .latch .now) (p .1 .1 .0) late (timesOf (x .target .now)) (timesOf (x .heads .now)) (timesOf (x .links .now)) (c .before .before .before .rise .last .1 .1 .1 .1 .1 .1 .1 .1 .1 .1 .1 .1 .0) (c .before .before .before .rise .last .1 .1 .1 .1 .1 .1 .1 .1 .1 .1 .1 .1 .1 .0) (c .before .before .before .rise .result .last) (c .before .before .before .rise .ensures) (not-false _ (c .before .if2 .left)) in
+    let n = counts (x .bytes .now) (x .image) (p .1 .0) in
+    (shape (x .bytes .now) v (x .image) (p .1 .0) (x .source .now) (x .late .now) (x .early .now) (x .first .now) (x .launch .now) (x .latch .now) (p .1 .1 .0) late, rw (n .synchronizers) (k .ranged))
+
+trace-requires : tie.Need-trace-requires
+trace-requires c κs =
+    let x = c .before .before .before .before .before .before .before .before .before .before .before .before .before .before .before .before .before .before .args in
+    let p = c .before .before .before .before .before .before .before .before .before .before .before .before .before .before .before .before .before .before .pre in
+    let v = accepts (x .bytes .now) .1 (p .0 .good) in
+    let k = climbed-known (x .bytes .now) v (x .image) (p .1 .0) (x .source .now) (x .late .now) (x .early .now) (x .first .now) (x .launch .now) (x .latch .now) (p .1 .1 .0) late (timesOf (x .target .now)) (timesOf (x .heads .now)) (timesOf (x .links .now)) (c .before .before .before .before .before .before .before .rise .last .1 .1 .1 .1 .1 .1 .1 .1 .1 .1 .1 .1 .0) (c .before .before .before .before .before .before .before .rise .last .1 .1 .1 .1 .1 .1 .1 .1 .1 .1 .1 .1 .1 .0) (c .before .before .before .before .before .before .before .rise .result .last) (c .before .before .before .before .before .before .before .rise .ensures) (not-false _ (c .before .before .before .before .before .if2 .left)) in
+    let r = ranks-are (x .bytes .now) v (x .image) (p .1 .0) (x .source .now) (x .late .now) (x .early .now) (x .first .now) (x .launch .now) (x .latch .now) (p .1 .1 .0) (c .before .before .before .before .before .before .before .rise .last .1 .1 .1 .1 .1 .1 .1 .1 .1 .1 .1 .1 .0) (c .before .before .before .rank-all .result) k (c .before .before .before .rank-all .ensures) in
     let n = counts (x .bytes .now) (x .image) (p .1 .0) in (
-      traceable (x .bytes .now) v (x .image) (p .1 .0) (x .source .now) (x .late .now) (x .early .now) (x .first .now) (x .launch .now) (x .latch .now) (p .1 .1) (s .result .departs) (s .result .ranks) k r,
-      ((rw (n .synchronizers) (p .0 .inside), omega (arith, n .synchronizers, p .0 .arcs-fit)), some-in (x .bytes .now) v (x .image) (p .1 .0) (x .source .now) (x .late .now) (x .early .now) (x .first .now) (x .launch .now) (x .latch .now) (p .1 .1) (x .i) (p .0 .inside) (c .before .before .before .before .before .before .before .before .before .if1 .left)),
+      traceable (x .bytes .now) v (x .image) (p .1 .0) (x .source .now) (x .late .now) (x .early .now) (x .first .now) (x .launch .now) (x .latch .now) (p .1 .1 .0) (c .before .before .before .before .before .before .before .rise .last .1 .1 .1 .1 .1 .1 .1 .1 .1 .1 .1 .1 .0) (c .before .before .before .rank-all .result) k r,
+      ((rw (n .synchronizers) (p .0 .inside), omega (arith, n .synchronizers, p .0 .arcs-fit)), some-in (x .bytes .now) v (x .image) (p .1 .0) (x .source .now) (x .late .now) (x .early .now) (x .first .now) (x .launch .now) (x .latch .now) (p .1 .1 .0) (x .i) (p .0 .inside) (c .before .before .before .before .before .before .before .before .before .before .before .before .before .if1 .left)),
     )
 
 same-length : tie.Need-same-length
@@ -74,13 +87,12 @@ same-length c = search needs
 
 returns-3 : tie.Need-returns-3
 returns-3 c =
-    let x = c .before .before .before .before .before .before .before .before .before .before .before .before .before .before .before .before .before .args in
-    let p = c .before .before .before .before .before .before .before .before .before .before .before .before .before .before .before .before .before .pre in
+    let x = c .before .before .before .before .before .before .before .before .before .before .before .before .before .before .before .before .before .before .before .before .before .args in
+    let p = c .before .before .before .before .before .before .before .before .before .before .before .before .before .before .before .before .before .before .before .before .before .pre in
     let v = accepts (x .bytes .now) .1 (p .0 .good) in
-    let s = c .before .before .before .before .before .before .before .before .before .before .settle in
-    let k = known (x .bytes .now) v (x .image) (p .1 .0) (x .source .now) (x .late .now) (x .early .now) (x .first .now) (x .launch .now) (x .latch .now) (p .1 .1) late (s .result .departs) (s .result .ranks) (not-false _ (c .before .before .before .before .before .before .before .before .if2 .left)) (s .ensures) in
-    let r = reckoned (x .bytes .now) v (x .image) (p .1 .0) (x .source .now) (x .late .now) (x .early .now) (x .first .now) (x .launch .now) (x .latch .now) (p .1 .1) late (s .result .departs) (s .result .ranks) (not-false _ (c .before .before .before .before .before .before .before .before .if2 .left)) (s .ensures) in
-    path-found (x .bytes .now) v (x .image) (p .1 .0) (x .source .now) (x .late .now) (x .early .now) (x .first .now) (x .launch .now) (x .latch .now) (p .1 .1) (s .result .departs) (s .result .ranks) k r (x .i) _ _ (x .arcs .now) _ (p .0) (c .before .before .trace .ensures)
+    let k = climbed-known (x .bytes .now) v (x .image) (p .1 .0) (x .source .now) (x .late .now) (x .early .now) (x .first .now) (x .launch .now) (x .latch .now) (p .1 .1 .0) late (timesOf (x .target .now)) (timesOf (x .heads .now)) (timesOf (x .links .now)) (c .before .before .before .before .before .before .before .before .before .before .rise .last .1 .1 .1 .1 .1 .1 .1 .1 .1 .1 .1 .1 .0) (c .before .before .before .before .before .before .before .before .before .before .rise .last .1 .1 .1 .1 .1 .1 .1 .1 .1 .1 .1 .1 .1 .0) (c .before .before .before .before .before .before .before .before .before .before .rise .result .last) (c .before .before .before .before .before .before .before .before .before .before .rise .ensures) (not-false _ (c .before .before .before .before .before .before .before .before .if2 .left)) in
+    let r = ranks-are (x .bytes .now) v (x .image) (p .1 .0) (x .source .now) (x .late .now) (x .early .now) (x .first .now) (x .launch .now) (x .latch .now) (p .1 .1 .0) (c .before .before .before .before .before .before .before .before .before .before .rise .last .1 .1 .1 .1 .1 .1 .1 .1 .1 .1 .1 .1 .0) (c .before .before .before .before .before .before .rank-all .result) k (c .before .before .before .before .before .before .rank-all .ensures) in
+    path-found (x .bytes .now) v (x .image) (p .1 .0) (x .source .now) (x .late .now) (x .early .now) (x .first .now) (x .launch .now) (x .latch .now) (p .1 .1 .0) (c .before .before .before .before .before .before .before .before .before .before .rise .last .1 .1 .1 .1 .1 .1 .1 .1 .1 .1 .1 .1 .0) (c .before .before .before .before .before .before .rank-all .result) k r (x .i) _ _ (x .arcs .now) _ (p .0) (c .before .before .trace .ensures)
 
 pub seek-spec : {M : Type 1} → statement M
 seek-spec =
@@ -93,8 +105,10 @@ seek-spec =
     element-copy-out-if1-2
     returns
     cast-l
-    settle-requires
+    cast-m
+    rise-requires
     returns-2
+    rank-all-requires
     trace-requires
     same-length
     returns-3)

@@ -3,55 +3,53 @@ use Prim.Native.Nat.{ℕ, _≤_, _<_, _-_}
 use native.Mathlib.Omega.{arith}
 use borrow.Author.Count.{below-more}
 use borrow.Author.Needs.{needs}
-use Rattle.circuit.specs.Circuit.{circuitOf}
-use Rattle.circuit.proofs.Sound.{sound}
-use Rattle.timing.proofs.Read.{counts, of-arc}
+use Rattle.tables.specs.Net.{timesOf}
 use Rattle.timing.proofs.Splitting.{splits}
 use Rattle.timing.proofs.load.advance.Statement.{statement}
 use Rattle.timing.proofs.load.advance.Tie as tie
 
 abbrev Inv-loop : tie.InvT-loop
-Inv-loop bytes image a i layout b₀ b = (b ≤ image .arcs) × ((j : ℕ) → j < b → circuitOf bytes .to j < i)
+Inv-loop target m a i b₀ b = (b ≤ m) × ((j : ℕ) → j < b → timesOf target j < i)
 
 abbrev μ-loop : tie.MeasureT-loop
-μ-loop bytes image a i layout b₀ b = image .arcs - b
+μ-loop target m a i b₀ b = m - b
 
 loop-holds : tie.Need-loop-holds Inv-loop μ-loop
-loop-holds c = c .before .before .pre .1 .1
+loop-holds c = (c .pre .0 .0, c .pre .1 .1)
 
-read-requires : tie.Need-read-requires Inv-loop μ-loop
-read-requires c κs = search needs
+mul-index : tie.Need-mul-index Inv-loop μ-loop
+mul-index c = search needs
+
+element-copy-out-index : tie.Need-element-copy-out-index Inv-loop μ-loop
+element-copy-out-index c = omega (arith, c .before .before .pre .0 .1, c .loop-test .taken)
+
+index-requires : tie.Need-index-requires Inv-loop μ-loop
+index-requires c κs = search needs
 
 returns : tie.Need-returns Inv-loop μ-loop
 returns c =
-    let k = c .before .before .before .before .before in
-    let e = k .before .before .before .pre in
-    let n = counts _ _ (e .1 .0) .arcs in
-    let arc = of-arc _ _ (e .1 .0) (c .before .before .read .ensures) in
-    splits _ (sound _ (e .0)) _ _ (omega (arith, k .loop .inv .0)) (k .loop .inv .1) (λ _. omega (arith, arc .to, c .if2 .taken))
+    let i = c .before in
+    let l = i .before .before .before .loop in
+    let s = i .before .before .before .before in
+    splits (timesOf (s .args .target .now)) (s .args .m) (s .pre .1 .0) _ _ (l .inv .0) (l .inv .1) (λ _. omega (arith, i .index .ensures .0, c .if1 .taken))
 
 add-b : tie.Need-add-b Inv-loop μ-loop
-add-b c =
-    let k = c .before .before .before .before .before in
-    let e = k .before .before .before .pre in
-    omega (arith, counts _ _ (e .1 .0) .arcs, sound _ (e .0) .arcs)
+add-b c = omega (arith, c .before .before .before .before .before .pre .0 .1, c .before .before .before .loop-test .taken)
 
 loop-less : tie.Need-loop-less Inv-loop μ-loop
 loop-less c = omega arith
 
 loop-again : tie.Need-loop-again Inv-loop μ-loop
 loop-again c =
-    let k = c .before .before .before .before .before in
-    let e = k .before .before .before .pre in
-    let arc = of-arc _ _ (e .1 .0) (c .before .before .read .ensures) in
-    (omega arith, below-more _ _ (k .loop .inv .1) (omega (arith, arc .to)))
+    let i = c .before in
+    let l = i .before .before .before .loop in
+    (omega arith, below-more _ _ (l .inv .1) (omega (arith, i .index .ensures .0, c .if1 .left)))
 
 returns-2 : tie.Need-returns-2 Inv-loop μ-loop
 returns-2 c =
-    let k = c .before .before in
-    let e = k .before .before .before .pre in
-    let n = counts _ _ (e .1 .0) .arcs in
-    splits _ (sound _ (e .0)) _ _ (omega arith) (k .loop .inv .1) (λ h. let z : ⊥ = omega arith in absurd z)
+    let l = c .before .loop in
+    let s = c .before .before in
+    splits (timesOf (s .args .target .now)) (s .args .m) (s .pre .1 .0) _ _ (l .inv .0) (l .inv .1) (λ h. let z : ⊥ = omega arith in absurd z)
 
 pub advance-spec : {M : Type 1} → statement M
 advance-spec =
@@ -60,7 +58,9 @@ advance-spec =
     Inv-loop
     μ-loop
     loop-holds
-    read-requires
+    mul-index
+    element-copy-out-index
+    index-requires
     returns
     add-b
     loop-less

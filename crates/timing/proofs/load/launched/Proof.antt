@@ -1,8 +1,28 @@
 -- `launched` gives a synchronizer's launch and kind: the opening for a latch, the cycle for a flip-flop.
+use mathlib.Core.Path.{_≡_}
+use Prim.Native.Nat.{_≤_, _<_}
+use native.Mathlib.Omega.{arith}
+use lib.ListN.{getD}
 use borrow.Author.Needs.{needs}
-use Rattle.timing.proofs.Launches.{launched-latch, launched-flop}
+use Rattle.circuit.specs.Circuit.{circuitOf}
+use Rattle.timing.proofs.Launches.{phase-known, noted-known, active-known, launched-latch, launched-flop}
 use Rattle.timing.proofs.load.launched.Statement.{statement}
 use Rattle.timing.proofs.load.launched.Tie as tie
+
+-- the synchronizer's phase is one of the circuit's
+known : (c : tie.After-read) →
+    (c .read .result .phase < circuitOf (c .before .before .args .bytes .now) .phases) × (c .read .result .phase < 16)
+known c = let e = c .before .before .pre in phase-known _ (e .0) _ (e .1 .0) _ (e .1 .1 .0) _ (c .read .ensures)
+
+-- and the table has how long it is active
+active : (c : tie.After-read) →
+    getD (c .before .before .args .active .now) (c .read .result .phase) 0 ≡ circuitOf (c .before .before .args .bytes .now) .active (c .read .result .phase)
+active c = c .before .before .pre .1 .1 .1 .holds _ (known c .0)
+
+small : (c : tie.After-read) →
+    (getD (c .before .before .args .active .now) (c .read .result .phase) 0 ≤ c .before .before .args .image .cycle)
+    × (getD (c .before .before .args .active .now) (c .read .result .phase) 0 ≤ 1000000000)
+small c = let e = c .before .before .pre in active-known _ (e .0) _ (e .1 .0) _ (e .1 .1 .0) _ (c .read .ensures) _ (active c)
 
 read-requires : tie.Need-read-requires
 read-requires c κs = search needs
@@ -13,26 +33,42 @@ cast-raised c = search needs
 add-raised : tie.Need-add-raised
 add-raised c = search needs
 
-read-requires-2 : tie.Need-read-requires-2
-read-requires-2 c κs = search needs
+cast-t10 : tie.Need-cast-t10
+cast-t10 c = omega (arith, known (c .before .before .before .before) .1)
 
-cast-t11 : tie.Need-cast-t11
-cast-t11 c = search needs
+mul-t11 : tie.Need-mul-t11
+mul-t11 c = omega (arith, known (c .before .before .before .before) .1)
 
-sub-t12 : tie.Need-sub-t12
-sub-t12 c = search needs
+element-copy-out-t14 : tie.Need-element-copy-out-t14
+element-copy-out-t14 c = omega (arith, known (c .before .before .before .before) .1)
+
+cast-t15 : tie.Need-cast-t15
+cast-t15 c = omega (arith, small (c .before .before .before .before .before) .1)
+
+sub-t16 : tie.Need-sub-t16
+sub-t16 c = omega (arith, small (c .before .before .before .before .before) .0)
+
+cast-t17 : tie.Need-cast-t17
+cast-t17 c = omega (arith, known (c .before .before .before .before .before .before) .1)
 
 returns : tie.Need-returns
 returns c =
-    let k = c .before .before .before .before .before in
-    let e = k .before .before .before .pre in
-    launched-latch _ (e .0) _ (e .1 .0) _ (e .1 .1) _ (k .read .ensures) (c .before .before .if1 .taken) _ (c .before .read2 .ensures)
+    let k = c .before .before .before .before .before .before in
+    let e = k .before .before .pre in (
+      launched-latch _ (e .0) _ (e .1 .0) _ (e .1 .1 .0) _ (k .read .ensures) (c .before .before .before .if1 .taken) _ (active k),
+      noted-known _ (e .0) _ (e .1 .0) _ (e .1 .1 .0) _ (k .read .ensures),
+    )
+
+cast-t18 : tie.Need-cast-t18
+cast-t18 c = omega (arith, known (c .before .before .before .before) .1)
 
 returns-2 : tie.Need-returns-2
 returns-2 c =
-    let k = c .before .before .before in
-    let e = k .before .before .before .pre in
-    launched-flop _ (e .0) _ (e .1 .0) _ (e .1 .1) _ (k .read .ensures) (c .if1 .left)
+    let k = c .before .before .before .before in
+    let e = k .before .before .pre in (
+      launched-flop _ (e .0) _ (e .1 .0) _ (e .1 .1 .0) _ (k .read .ensures) (c .before .if1 .left),
+      noted-known _ (e .0) _ (e .1 .0) _ (e .1 .1 .0) _ (k .read .ensures),
+    )
 
 pub launched-spec : {M : Type 1} → statement M
 launched-spec =
@@ -41,8 +77,12 @@ launched-spec =
     read-requires
     cast-raised
     add-raised
-    read-requires-2
-    cast-t11
-    sub-t12
+    cast-t10
+    mul-t11
+    element-copy-out-t14
+    cast-t15
+    sub-t16
+    cast-t17
+    cast-t18
     returns
     returns-2)

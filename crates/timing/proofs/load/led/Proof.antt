@@ -1,72 +1,138 @@
--- `led` gives an arc's source and its two leads: no sum leaves 32 bits, and no shift exceeds the cycle.
-use Prim.Native.Nat.{_≤_}
+-- `led` gives an arc's ends and its two leads: no sum leaves 32 bits, and no shift exceeds the cycle.
+use Prim.Native.Nat.{ℕ, _≤_}
 use native.Mathlib.Omega.{arith}
+use lib.ListN.{getD}
 use borrow.Author.Needs.{needs}
-use Rattle.timing.proofs.Leading.{Ends, ends-known, back-known, led-known}
+use Rattle.circuit.specs.Circuit.{circuitOf}
+use Rattle.timing.proofs.Shifts.{shifted}
+use Rattle.timing.proofs.Leading.{Ends, ends-known, target-known, back-known, led-known}
 use Rattle.timing.proofs.load.led.Statement.{statement}
 use Rattle.timing.proofs.load.led.Tie as tie
+
+-- of the arc's two ends: their phases, when these close, and the delays of the one that it leaves
+abbrev left : tie.After-read → ℕ
+left c = getD (c .before .before .args .phase .now) (c .read .result .from) 0
+
+abbrev entered : tie.After-read → ℕ
+entered c = getD (c .before .before .args .phase .now) (c .read .result .to) 0
+
+abbrev closes : tie.After-read → ℕ → ℕ
+closes c p = getD (c .before .before .args .closing .now) p 0
+
+ends : (c : tie.After-read) →
+    Ends (circuitOf (c .before .before .args .bytes .now)) (c .before .before .args .image .cycle) (c .read .result) (left c) (entered c)
+    (closes c (left c)) (closes c (entered c)) (getD (c .before .before .args .least .now) (c .read .result .from) 0)
+    (getD (c .before .before .args .greatest .now) (c .read .result .from) 0)
+ends c = let e = c .before .before .pre in ends-known _ (e .0) _ (e .1 .0) _ (e .1 .1 .0) _ (c .read .ensures) _ _ _ _ (e .1 .1 .1)
+
+-- once the shift is known
+back : (c : tie.After-shift) → (c .shift .result ≤ c .before .before .before .before .before .before .before .before .before .args .image .cycle) × (c .before .before .before .before .before .before .before .before .before .args .image .cycle ≤ 1000000000)
+back c = let k = c .before .before .before .before .before .before .before in let e = k .before .before .pre in
+    back-known _ (e .0) _ (e .1 .0) _ (e .1 .1 .0) _ (k .read .ensures) _ _ _ _ (e .1 .1 .1) _ (shifted (ends k .shifts) (c .shift .ensures))
 
 read-requires : tie.Need-read-requires
 read-requires c κs = search needs
 
-read-requires-2 : tie.Need-read-requires-2
-read-requires-2 c κs = search needs
+cast-from : tie.Need-cast-from
+cast-from c = omega (arith, ends (c .before) .from)
 
-read-requires-3 : tie.Need-read-requires-3
-read-requires-3 c κs = search needs
+cast-to : tie.Need-cast-to
+cast-to c = omega (arith, ends (c .before .before) .to)
 
--- what is known once the arc and its two ends are read
-ends : (c : tie.After-read3) → Ends (c .before .before .before .before .before .args .image) (c .before .before .read .result) (c .before .read2 .result) (c .read3 .result)
-ends c = let e = c .before .before .before .before .before .pre in
-    ends-known _ (e .0) _ (e .1 .0) _ (e .1 .1) _ (c .before .before .read .ensures) _ (c .before .read2 .ensures) _ (c .read3 .ensures)
+element-copy-out-p : tie.Need-element-copy-out-p
+element-copy-out-p c = omega (arith, ends (c .before .before) .from)
 
--- and once the shift is
-back : (c : tie.After-shift) →
-    (c .shift .result ≤ c .before .before .before .before .before .before .args .image .cycle)
-    × (c .before .before .before .before .before .before .args .image .cycle ≤ 1000000000)
-back c = let k = c .before in let e = k .before .before .before .before .before .pre in
-    back-known _ (e .0) _ (e .1 .0) _ (e .1 .1) _ (k .before .before .read .ensures) _ (k .before .read2 .ensures) _ (k .read3 .ensures) _ (c .shift .ensures)
+element-copy-out-q : tie.Need-element-copy-out-q
+element-copy-out-q c = omega (arith, ends (c .before .before .before) .to)
+
+cast-shift : tie.Need-cast-shift
+cast-shift c = omega (arith, ends (c .before .before .before .before) .phases .0)
+
+mul-shift : tie.Need-mul-shift
+mul-shift c = omega (arith, ends (c .before .before .before .before) .phases .0)
+
+element-copy-out-shift : tie.Need-element-copy-out-shift
+element-copy-out-shift c = omega (arith, ends (c .before .before .before .before) .phases .0)
+
+cast-shift-2 : tie.Need-cast-shift-2
+cast-shift-2 c = omega (arith, ends (c .before .before .before .before .before) .phases .1)
+
+mul-shift-2 : tie.Need-mul-shift-2
+mul-shift-2 c = omega (arith, ends (c .before .before .before .before .before) .phases .1)
+
+element-copy-out-shift-2 : tie.Need-element-copy-out-shift-2
+element-copy-out-shift-2 c = omega (arith, ends (c .before .before .before .before .before) .phases .1)
 
 shift-requires : tie.Need-shift-requires
-shift-requires c κs = let e = c .before .before .before .before .before .pre in (e .0, (e .1 .0, ends c .phases))
+shift-requires c κs = let s = ends (c .before .before .before .before .before .before) .shifts in (λ l. s .on l .0, λ l. (s .round l .1, s .round l .0))
 
 sub-back : tie.Need-sub-back
-sub-back c = back (c .before) .0
+sub-back c = back c .0
 
-cast-t10 : tie.Need-cast-t10
-cast-t10 c = omega (arith, ends (c .before .before .before) .from)
+narrow-requires : tie.Need-narrow-requires
+narrow-requires c κs = omega (arith, ends (c .before .before .before .before .before .before .before) .from)
 
-add-t9 : tie.Need-add-t9
-add-t9 c = omega (arith, ends (c .before .before .before .before .before) .late)
+narrow-requires-2 : tie.Need-narrow-requires-2
+narrow-requires-2 c κs = omega (arith, ends (c .before .before .before .before .before .before .before .before) .to)
 
-add-t11 : tie.Need-add-t11
-add-t11 c = let k = c .before .before .before .before in omega (arith, ends (k .before) .late, back k)
+mul-t21 : tie.Need-mul-t21
+mul-t21 c = omega (arith, ends (c .before .before .before .before .before .before .before .before .before) .from)
 
-add-t12 : tie.Need-add-t12
-add-t12 c = omega (arith, ends (c .before .before .before .before .before .before .before) .early)
+element-copy-out-t20 : tie.Need-element-copy-out-t20
+element-copy-out-t20 c = omega (arith, ends (c .before .before .before .before .before .before .before .before .before) .from)
 
-add-t13 : tie.Need-add-t13
-add-t13 c = let k = c .before .before .before .before .before .before in omega (arith, ends (k .before) .early, back k)
+add-t30 : tie.Need-add-t30
+add-t30 c = omega (arith, ends (c .before .before .before .before .before .before .before .before .before .before .before) .late)
+
+add-t25 : tie.Need-add-t25
+add-t25 c = omega (arith, ends (c .before .before .before .before .before .before .before .before .before .before .before) .late, back (c .before .before .before .before))
+
+mul-t27 : tie.Need-mul-t27
+mul-t27 c = omega (arith, ends (c .before .before .before .before .before .before .before .before .before .before .before) .from)
+
+element-copy-out-t37 : tie.Need-element-copy-out-t37
+element-copy-out-t37 c = omega (arith, ends (c .before .before .before .before .before .before .before .before .before .before .before) .from)
+
+add-t38 : tie.Need-add-t38
+add-t38 c = omega (arith, ends (c .before .before .before .before .before .before .before .before .before .before .before .before .before) .early)
+
+add-t39 : tie.Need-add-t39
+add-t39 c = omega (arith, ends (c .before .before .before .before .before .before .before .before .before .before .before .before .before) .early, back (c .before .before .before .before .before .before))
 
 returns : tie.Need-returns
 returns c =
-    let h = c .before .before .before .before .before .before in
-    let k = h .before in
-    let e = k .before .before .before .before .before .pre in
-    led-known _ (e .0) _ (e .1 .0) _ (e .1 .1) _ (k .before .before .read .ensures) _ (k .before .read2 .ensures) _ (k .read3 .ensures) _ (h .shift .ensures)
+    let k = c .before .before .before .before .before .before .before .before .before .before .before .before .before in
+    let e = k .before .before .pre in
+    let s = shifted (ends k .shifts) (c .before .before .before .before .before .before .shift .ensures) in (
+      rw (c .before .before .before .before .before .narrow .ensures) (led-known _ (e .0) _ (e .1 .0) _ (e .1 .1 .0) _ (k .read .ensures) _ _ _ _ (e .1 .1 .1) _ s),
+      rw (c .before .before .before .before .narrow2 .ensures) (target-known _ (e .0) _ (e .1 .0) _ (e .1 .1 .0) _ (k .read .ensures) _ _ _ _ (e .1 .1 .1)),
+    )
 
 pub led-spec : {M : Type 1} → statement M
 led-spec =
     tie.close
     (tie.spec
     read-requires
-    read-requires-2
-    read-requires-3
+    cast-from
+    cast-to
+    element-copy-out-p
+    element-copy-out-q
+    cast-shift
+    mul-shift
+    element-copy-out-shift
+    cast-shift-2
+    mul-shift-2
+    element-copy-out-shift-2
     shift-requires
     sub-back
-    cast-t10
-    add-t9
-    add-t11
-    add-t12
-    add-t13
+    narrow-requires
+    narrow-requires-2
+    mul-t21
+    element-copy-out-t20
+    add-t30
+    add-t25
+    mul-t27
+    element-copy-out-t37
+    add-t38
+    add-t39
     returns)

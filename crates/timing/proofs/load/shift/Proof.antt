@@ -1,41 +1,30 @@
--- `shift` gives the shift: no difference falls below zero, and no sum leaves 32 bits.
+-- `shift` takes one of equation 1's two differences, each of which is no less than zero.
+use mathlib.Core.Path.{refl}
 use native.Mathlib.Omega.{arith}
-use borrow.Author.Needs.{needs}
-use Rattle.circuit.specs.Circuit.{circuitOf}
-use Rattle.timing.proofs.Shifts.{Shifting, shifting-read}
 use Rattle.timing.proofs.load.shift.Statement.{statement}
 use Rattle.timing.proofs.load.shift.Tie as tie
 
-read-requires : tie.Need-read-requires
-read-requires c κs = search needs
-
-read-requires-2 : tie.Need-read-requires-2
-read-requires-2 c κs = search needs
-
--- what is known once both phases are read
-known : (c : tie.After-read2) →
-    Shifting (circuitOf (c .before .before .before .before .args .bytes .now)) (c .before .before .before .before .args .image .cycle)
-    (c .before .before .before .before .args .p) (c .before .before .before .before .args .q)
-    (c .before .read .result .closing) (c .read2 .result .closing)
-known c = let e = c .before .before .before .before .pre in
-    shifting-read _ (e .0) _ (e .1 .0) _ _ (e .1 .1) _ _ (c .before .read .ensures) (c .read2 .ensures)
-
 sub-result : tie.Need-sub-result
-sub-result c = known (c .before .before .before) .on (c .before .before .if1 .taken) .0
+sub-result c = c .before .pre .0 (c .if1 .taken)
 
 add-result : tie.Need-add-result
-add-result c = omega (arith, known (c .before .before .before) .round (c .before .before .if1 .left) .0)
+add-result c = omega (arith, c .before .pre .1 (c .if1 .left) .1)
 
 sub-result-2 : tie.Need-sub-result-2
-sub-result-2 c = known (c .before .before .before .before) .round (c .before .before .before .if1 .left) .1
+sub-result-2 c = c .before .pre .1 (c .if1 .left) .0
 
 returns : tie.Need-returns
-returns c = known (c .before .before .before) .on (c .before .before .if1 .taken) .1
+returns c = (λ l. refl, λ l. let z : ⊥ = omega (arith, l, c .if1 .taken) in absurd z)
 
 returns-2 : tie.Need-returns-2
-returns-2 c = known (c .before .before .before .before) .round (c .before .before .before .if1 .left) .2
+returns-2 c = (λ l. let z : ⊥ = omega (arith, l, c .if1 .left) in absurd z, λ l. refl)
 
 pub shift-spec : {M : Type 1} → statement M
 shift-spec =
     tie.close
-    (tie.spec read-requires read-requires-2 sub-result add-result sub-result-2 returns returns-2)
+    (tie.spec
+    sub-result
+    add-result
+    sub-result-2
+    returns
+    returns-2)

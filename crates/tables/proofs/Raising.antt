@@ -1,0 +1,192 @@
+-- Raises stay within the range of numbers, keep the order of departures, and are the flow's updates in place.
+use mathlib.Core.Path.{_≡_, sym, ap, _∙_}
+use mathlib.Core.Bool.{Bool, true, false, cond}
+use Prim.Native.Nat.{ℕ, zero, suc, _+_, _-_, _*_, _<_, _≤_, max}
+use native.Mathlib.Omega.{arith}
+use native.Mathlib.Decide.{ℕ-discrete}
+use lib.Dec.{eqb}
+use borrow.Author.Tests.{ne-eqb}
+use Rattle.ticks.specs.Raised.{RAISE, lower}
+use Rattle.ticks.proofs.Order.{≤ℤ-antisym}
+use Rattle.ticks.proofs.Raised.{lower-le, le-lower, lower-injective}
+use Rattle.flow.specs.Flow.{Flow, Good, Side, late, early, next, round, Fits, Least, Settled}
+use Rattle.flow.specs.Bounds.{Bounded, Agree}
+use Rattle.flow.specs.Updates.{Updated, launched, updated}
+use Rattle.flow.proofs.Updates.{updated-rises, updated-fits, updated-least, pass-round}
+use Rattle.flow.proofs.Rounds.{settled-least}
+use Rattle.flow.proofs.Agree.{least-agree}
+use Rattle.tables.specs.Net.{Arcs, Net, brought, better, best, degree, arrivalN, departing, departN, Shaped, Ranged}
+use Rattle.tables.specs.Models.{Models}
+use Rattle.tables.specs.Raise.{raised, Raise, Risen, at-launch, raise, Passed, none, pass, Modest}
+use Rattle.tables.proofs.Models.{lowered, depart-models}
+
+step : {a b c : ℕ} → a ≤ b → b ≤ c → a ≤ c
+step h k = omega arith
+
+better-mono : (s : Side) (a b c d : ℕ) → a ≤ b → c ≤ d → better s a c ≤ better s b d
+better-mono late a b c d h k = omega arith
+better-mono early a b c d h k = omega arith
+
+departing-mono : (b : Bool) (d t u x y : ℕ) → t ≤ u → x ≤ y → departing b d t x ≤ departing b d u y
+departing-mono b d t u x y h k = go b (eqb d 0)
+  where
+    go : (b z : Bool) → cond b (cond z x (max t x)) x ≤ cond b (cond z y (max u y)) y
+    go false z = k
+    go true false = omega arith
+    go true true = k
+
+departing-above : (b : Bool) (d t x : ℕ) → x ≤ departing b d t x
+departing-above b d t x = go b (eqb d 0)
+  where
+    go : (b z : Bool) → x ≤ cond b (cond z x (max t x)) x
+    go false z = omega arith
+    go true false = omega arith
+    go true true = omega arith
+
+-- D is nowhere later than E, over l nodes
+abbrev pub Before : ℕ → (ℕ → ℕ) → (ℕ → ℕ) → Type 0
+Before l D E = (i : ℕ) → i < l → D i ≤ E i
+
+module _ (s : Side) (n : Net) (l m : ℕ) (shaped : Shaped n l m) where
+  best-mono : (D E : ℕ → ℕ) → Before l D E → (a k : ℕ) → a + k ≤ m → best s (n .arcs) D a k ≤ best s (n .arcs) E a k
+  unfolding best
+  best-mono D E h a zero r = omega arith
+  best-mono D E h a (suc k) r =
+      let x = h (n .arcs .source (a + k)) (shaped .sources (a + k) (omega arith)) in
+      better-mono s _ _ _ _ (best-mono D E h a k (omega arith)) (omega arith)
+
+  pub raised-mono : (D E : ℕ → ℕ) → Before l D E → Before l (raised s n D) (raised s n E)
+  unfolding raised
+  raised-mono D E h i here = departing-mono (n .latch i) (degree n i) _ _ _ _
+      (best-mono D E h (n .first i) (degree n i) (omega (arith, shaped .rises i here, shaped .ends i here))) (h i here)
+
+  pub raised-above : (D : ℕ → ℕ) → Before l D (raised s n D)
+  unfolding raised
+  raised-above D i here = departing-above (n .latch i) (degree n i) (arrivalN s n D i) (D i)
+
+  pub raise-rises : (i : ℕ) (D E : ℕ → ℕ) → Raise s n l i D E → Before l D E
+  raise-rises i D E r j here = elim (ℕ-discrete j i) [
+    | yes q ↦ rw (q, r .new) (raised-above D i (r .here))
+    | no q ↦ rw (r .rest j here q) (omega arith)
+  ]
+
+  pub risen-launch : {p : ℕ} {D : ℕ → ℕ} → Risen s n l p D → Before l (n .launch) D
+  risen-launch (at-launch e) i here = rw (e i here) (omega arith)
+  risen-launch (raise {p} {D} {E} i h r) j here = omega (arith, risen-launch h j here, raise-rises i D E r j here)
+
+  -- passes
+  pub passed-later : {k : ℕ} {D : ℕ → ℕ} (E : ℕ → ℕ) → Passed s n l k D → Before l D E → Passed s n l k E
+  passed-later E (none {D} h) b = none {D = E} (λ i here. omega (arith, h i here, b i here))
+  passed-later E (pass {k} {D} h g r) b = pass {k = k} {D = D} {E = E} h g (λ i here. omega (arith, r i here, b i here))
+
+  pub passed-launch : {k : ℕ} {D : ℕ → ℕ} → Passed s n l k D → Before l (n .launch) D
+  passed-launch (none h) i here = h i here
+  passed-launch (pass {k} {D} {E} h g r) i here = omega (arith, passed-launch h i here, raised-above D i here, r i here)
+
+-- sizes: a raise adds no more than a lead
+lead-high : (g : Arcs) (D : ℕ → ℕ) (x a : ℕ) → D (g .source a) < x → g .lead a < RAISE → brought g D a < x + RAISE
+lead-high g D x a h k = omega arith
+
+best-high : (s : Side) (g : Arcs) (D : ℕ → ℕ) (x a k : ℕ) → ((b : ℕ) → b < a + suc k → D (g .source b) < x) →
+    ((b : ℕ) → b < a + suc k → g .lead b < RAISE) → best s g D a (suc k) < x + RAISE
+unfolding best
+best-high late g D x a zero h r = let t = lead-high g D x (a + 0) (h (a + 0) (omega arith)) (r (a + 0) (omega arith)) in omega arith
+best-high late g D x a (suc k) h r =
+    let t = lead-high g D x (a + suc k) (h (a + suc k) (omega arith)) (r (a + suc k) (omega arith)) in
+    let u = best-high late g D x a k (λ b l. h b (omega arith)) (λ b l. r b (omega arith)) in
+    omega arith
+best-high early g D x a k h r = let t = lead-high g D x (a + k) (h (a + k) (omega arith)) (r (a + k) (omega arith)) in omega arith
+
+module _ (s : Side) (n : Net) (l m : ℕ) (shaped : Shaped n l m) (modest : Modest n l m) where
+  raised-high : (D : ℕ → ℕ) (x : ℕ) → ((i : ℕ) → i < l → D i < x) → (i : ℕ) → i < l → raised s n D i < x + RAISE
+  unfolding raised
+  raised-high D x h i here = go (n .latch i) (degree n i) (omega (arith, shaped .rises i here))
+    where
+      go : (b : Bool) (d : ℕ) → n .first i + d ≤ n .first (i + 1) → departing b d (best s (n .arcs) D (n .first i) d) (D i) < x + RAISE
+      go false d e = omega (arith, h i here)
+      go true zero e = omega (arith, h i here)
+      go true (suc d) e =
+          let t = best-high s (n .arcs) D x (n .first i) d
+          (λ b o. h (n .arcs .source b) (shaped .sources b (omega (arith, shaped .ends i here))))
+          (λ b o. modest .leads b (omega (arith, shaped .ends i here))) in
+          rw (ne-eqb (suc d) 0 (λ q. omega arith)) (omega (arith, h i here))
+
+  pub risen-high : {p : ℕ} {D : ℕ → ℕ} → Risen s n l p D → (i : ℕ) → i < l → D i < 8589934592 + p * RAISE
+  risen-high (at-launch e) i here = rw (e i here) (omega (arith, modest .high i here))
+  risen-high (raise {p} {D} {E} i h r) j here =
+      let old = risen-high h in
+      elim (ℕ-discrete j i) [
+        | yes q ↦ rw (q, r .new) (omega (arith, raised-high D (8589934592 + p * RAISE) old i (r .here)))
+        | no q ↦ rw (r .rest j here q) (omega (arith, old j here))
+      ]
+
+  -- at most l passes over l nodes
+  pub risen-ranged : {p : ℕ} {D : ℕ → ℕ} → Risen s n l p D → p ≤ 262144 → Ranged l D
+  risen-ranged h few = record {
+    low = λ i here. omega (arith, modest .low i here, risen-launch s n l m shaped h i here);
+    high = λ i here. omega (arith, risen-high h i here);
+  }
+
+  -- raises are updates
+  module _ (f : Flow) (good : Good f) (models : Models n f) (same : f .nodes ≡ l) where
+    -- where a node departs between its launch and what the others lead to, both say the same
+    raised-is : (D : ℕ → ℕ) (i : ℕ) → n .launch i ≤ D i → D i ≤ departN s n D i → raised s n D i ≡ departN s n D i
+    unfolding raised departN
+    raised-is D i low high = go (n .latch i) (eqb (degree n i) 0) high
+      where
+        go : (b z : Bool) → D i ≤ cond b (cond z (n .launch i) (max (arrivalN s n D i) (n .launch i))) (n .launch i) →
+            cond b (cond z (D i) (max (arrivalN s n D i) (D i))) (D i) ≡ cond b (cond z (n .launch i) (max (arrivalN s n D i) (n .launch i))) (n .launch i)
+        go false z h = omega arith
+        go true true h = omega arith
+        go true false h = omega arith
+
+    raised-next : {p : ℕ} {D : ℕ → ℕ} → Risen s n l p D → p ≤ 262144 → Updated s f p (lowered D) →
+        (i : ℕ) → i < l → lower (raised s n D i) ≡ next s f (lowered D) i
+    raised-next {p} {D} h few u i here =
+        let r = risen-ranged h few in
+        let e = depart-models s n f good models D (rw same r) i (rw same here) in
+        let low = risen-launch s n l m shaped h i here in
+        let high = le-lower (D i) (departN s n D i) (rw e (updated-rises s f good u i (rw same here))) in
+        ap lower (raised-is D i low high) ∙ e
+
+    pub risen-updated : {p : ℕ} {D : ℕ → ℕ} → Risen s n l p D → p ≤ 262144 → Updated s f p (lowered D)
+    risen-updated (at-launch {D} e) few = launched {E = lowered D} (λ i here. ap lower (e i (rw same at here)) ∙ models .launch i here)
+    risen-updated (raise {p} {D} {E} i h r) few =
+        let u = risen-updated h (omega arith) in
+        updated {n = p} {E = lowered D} {F = lowered E} i u (record {
+          here = rw same (r .here);
+          new = ap lower (r .new) ∙ raised-next h (omega arith) u i (r .here);
+          rest = λ j here d. ap lower (r .rest j (rw same at here) d);
+        })
+
+    pub still-fits : {p : ℕ} {D : ℕ → ℕ} → Risen s n l p D → p ≤ 262144 → ((i : ℕ) → i < l → raised s n D i ≡ D i) → Fits s f (lowered D)
+    still-fits h few still i here =
+        let k = rw same at here in
+        sym (ap lower (still i k)) ∙ raised-next h few (risen-updated h few) i k
+
+    pub risen-least : {p : ℕ} {D : ℕ → ℕ} → Risen s n l p D → p ≤ 262144 → ((i : ℕ) → i < l → raised s n D i ≡ D i) → Least s f (lowered D)
+    risen-least h few still = updated-least s f good (risen-updated h few) (still-fits h few still)
+
+    -- what the others lead to is no later than what a node is raised to
+    depart-raised : (D : ℕ → ℕ) (i : ℕ) → n .launch i ≤ D i → departN s n D i ≤ raised s n D i
+    unfolding raised departN
+    depart-raised D i low = departing-mono (n .latch i) (degree n i) (arrivalN s n D i) (arrivalN s n D i) (n .launch i) (D i) (omega arith) low
+
+    pub passed-round : {k : ℕ} {D : ℕ → ℕ} → Passed s n l k D → Bounded late f (round s f k) (lowered D)
+    unfolding round
+    passed-round (none {D} h) i here = rw (← models .launch i here) (lower-le (h i (rw same at here)))
+    passed-round (pass {k} {D} {E} h g r) j here = pass-round s f good k (lowered D) (lowered E) (passed-round h) (λ i here.
+        let j = rw same at here in
+        let e = depart-models s n f good models D (rw same g) i here in
+        rw (← e) (lower-le (step (depart-raised D i (passed-launch s n l m shaped h i j)) (r i j)))) j here
+
+    -- where round k settles, k passes have settled
+    pub passed-settled : (k : ℕ) → Settled s f k → {p : ℕ} {D : ℕ → ℕ} → Passed s n l k D → Risen s n l p D → p ≤ 262144 →
+        (i : ℕ) → i < l → raised s n D i ≡ D i
+    passed-settled k done {p} {D} passed h few i here =
+        let u = risen-updated h few in
+        let least = settled-least s f good k done in
+        let agree : Agree f (round s f k) (lowered D) =
+        λ j l. ≤ℤ-antisym (passed-round passed j l) (updated-fits s f good (round s f k) (least .fits) u j l) in
+        let fits = least-agree f good (round s f k) (lowered D) agree s least .fits i (rw same here) in
+        lower-injective _ _ (raised-next h few u i here ∙ sym fits)

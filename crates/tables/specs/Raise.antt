@@ -1,0 +1,52 @@
+-- Departures raised in place, on the tables: one node after the other is given its arrival, where that is later than its departure.
+use mathlib.Core.Path.{_≡_}
+use mathlib.Core.Bool.{Bool, true, false}
+use mathlib.Core.List.{List}
+use Prim.Native.Nat.{ℕ, zero, suc, _+_, _-_, _<_, _≤_}
+use lib.ListN.{getD, set}
+use Rattle.ticks.specs.Raised.{RAISE}
+use Rattle.flow.specs.Flow.{Side}
+use Rattle.tables.specs.Net.{Arcs, Net, timesOf, brought, better, best, degree, arrivalN, departing, Ranged}
+
+-- when node i departs, if it departs no sooner than it does
+unfoldable pub raised : Side → Net → (ℕ → ℕ) → ℕ → ℕ
+raised s n D i = departing (n .latch i) (degree n i) (arrivalN s n D i) (D i)
+
+-- E is D but at node i, which is raised
+pub record Raise (s : Side) (n : Net) (l i : ℕ) (D E : ℕ → ℕ) : Type 0 where
+  pub here : i < l
+  pub new : E i ≡ raised s n D i
+  pub rest : (j : ℕ) → j < l → (j ≡ i → ⊥) → E j ≡ D j
+
+-- what p raises make of the launches
+pub data Risen (s : Side) (n : Net) (l : ℕ) : ℕ → (ℕ → ℕ) → Type 0 where
+  at-launch : {D : ℕ → ℕ} → ((i : ℕ) → i < l → D i ≡ n .launch i) → Risen s n l zero D
+  raise : {p : ℕ} {D E : ℕ → ℕ} (i : ℕ) → Risen s n l p D → Raise s n l i D E → Risen s n l (suc p) E
+
+-- after k passes: each gave every node at least what the departures before it lead to, and those could be reckoned with
+pub data Passed (s : Side) (n : Net) (l : ℕ) : ℕ → (ℕ → ℕ) → Type 0 where
+  none : {D : ℕ → ℕ} → ((i : ℕ) → i < l → n .launch i ≤ D i) → Passed s n l zero D
+  pass : {k : ℕ} {D E : ℕ → ℕ} → Passed s n l k D → Ranged l D → ((i : ℕ) → i < l → raised s n D i ≤ E i) → Passed s n l (suc k) E
+
+-- the numbers of the tables are small enough for as many raises as l passes over l nodes can be
+pub record Modest (n : Net) (l m : ℕ) : Type 0 where
+  pub low : (i : ℕ) → i < l → RAISE ≤ n .launch i
+  pub high : (i : ℕ) → i < l → n .launch i < 8589934592
+  pub leads : (a : ℕ) → a < m → n .arcs .lead a < RAISE
+
+-- the flag says whether x would be picked before y
+pub data Beats (s : Side) (x y : ℕ) : Bool → Type 0 where
+  beats : better s y x ≡ x → Beats s x y true
+  yields : better s y x ≡ y → Beats s x y false
+
+-- of the arcs from `from` up to `to`, a decides: it brings the time that is picked
+pub record Decides (s : Side) (g : Arcs) (D : ℕ → ℕ) (from to a : ℕ) : Type 0 where
+  pub above : from ≤ a
+  pub below : a < to
+  pub brings : brought g D a ≡ best s g D from (to - from)
+
+-- node i was tried: it stays, or it was raised and the arc that decided is noted
+pub data Tried (s : Side) (n : Net) (i : ℕ) (departs parents : List ℕ) : Bool → List ℕ → List ℕ → Type 0 where
+  stays : raised s n (timesOf departs) i ≡ getD departs i 0 → Tried s n i departs parents false departs parents
+  rises : (a : ℕ) → getD departs i 0 < raised s n (timesOf departs) i → Decides s (n .arcs) (timesOf departs) (n .first i) (n .first (i + 1)) a →
+      Tried s n i departs parents true (set departs i (raised s n (timesOf departs) i)) (set parents i a)

@@ -1,0 +1,149 @@
+-- `raise` goes by what the synchronizer is, and by whether its arrival is later than its departure.
+use mathlib.Core.Path.{_≡_, refl, sym, _∙_}
+use native.Mathlib.Omega.{arith}
+use borrow.Author.Tests.{eq-eqb, ne-eqb}
+use Rattle.tables.specs.Net.{sideOf, timesOf, arcsOf, netOf}
+use Rattle.tables.specs.Raise.{raised, stays, rises}
+use Rattle.tables.proofs.Deciding.{raised-arc, raised-bare, raised-flop}
+use Rattle.timing.proofs.Reach.{reach}
+use borrow.Author.Needs.{needs}
+use Rattle.timing.proofs.climb.raise.Statement.{statement}
+use Rattle.timing.proofs.climb.raise.Tie as tie
+
+element-copy-out-if1 : tie.Need-element-copy-out-if1
+element-copy-out-if1 c = search needs
+
+returns : tie.Need-returns
+returns c =
+    let x = c .before .before .args in
+    let w = c .before .before .pre in
+    let s = sideOf (x .late) in
+    let n = (netOf (arcsOf (x .source .now) (x .lead .now) (x .cycle)) (x .first .now) (x .launch .now) (x .latch .now)) in
+    let D = timesOf (x .departs .now) in
+    stays (raised-flop s n D (x .i) (ne-eqb _ 1 (c .if1 .taken)))
+
+mul-index : tie.Need-mul-index
+mul-index c = search needs
+
+element-copy-out-index : tie.Need-element-copy-out-index
+element-copy-out-index c = search needs
+
+index-requires : tie.Need-index-requires
+index-requires c κs = search needs
+
+add-index : tie.Need-add-index
+add-index c = search needs
+
+mul-index-2 : tie.Need-mul-index-2
+mul-index-2 c = search needs
+
+element-copy-out-index-2 : tie.Need-element-copy-out-index-2
+element-copy-out-index-2 c = search needs
+
+index-requires-2 : tie.Need-index-requires-2
+index-requires-2 c κs = search needs
+
+returns-2 : tie.Need-returns-2
+returns-2 c =
+    let x = c .before .before .before .before .before .before .before .args in
+    let w = c .before .before .before .before .before .before .before .pre in
+    let s = sideOf (x .late) in
+    let n = (netOf (arcsOf (x .source .now) (x .lead .now) (x .cycle)) (x .first .now) (x .launch .now) (x .latch .now)) in
+    let D = timesOf (x .departs .now) in
+    stays (raised-bare s n D (x .i) (omega (arith, c .if2 .taken, c .before .before .before .index .ensures .0, c .before .index2 .ensures .0)))
+
+deciding-requires : tie.Need-deciding-requires
+deciding-requires c κs =
+    let x = c .before .before .before .before .before .before .before .before .args in
+    let w = c .before .before .before .before .before .before .before .before .pre in
+    let s = sideOf (x .late) in
+    let n = (netOf (arcsOf (x .source .now) (x .lead .now) (x .cycle)) (x .first .now) (x .launch .now) (x .latch .now)) in
+    let D = timesOf (x .departs .now) in
+    let e = c .before .before .index2 .ensures .0 in
+    (omega (arith, c .before .if2 .left), reach n (x .source .now) (x .departs .now) (w .nodes) (w .works .arcs) _ (λ a. refl) (w .works .shaped) (w .works .ranged) (omega (arith, e, w .works .shaped .ends (x .i) (w .here))))
+
+bring-requires : tie.Need-bring-requires
+bring-requires c κs =
+    let x = c .before .before .before .before .before .before .before .before .before .before .args in
+    let w = c .before .before .before .before .before .before .before .before .before .before .pre in
+    let s = sideOf (x .late) in
+    let n = (netOf (arcsOf (x .source .now) (x .lead .now) (x .cycle)) (x .first .now) (x .launch .now) (x .latch .now)) in
+    let D = timesOf (x .departs .now) in
+    let e = c .before .before .before .before .index2 .ensures .0 in
+    let d = c .before .deciding .ensures in
+    let t = reach n (x .source .now) (x .departs .now) (w .nodes) (w .works .arcs) (c .before .before .before .before .index2 .result) (λ a. refl) (w .works .shaped) (w .works .ranged) (omega (arith, e, w .works .shaped .ends (x .i) (w .here))) in
+    (omega (arith, t .few, d .below), (t .inside _ (d .below), (t .low _ (d .below), t .high _ (d .below))))
+
+mul-if3 : tie.Need-mul-if3
+mul-if3 c = search needs
+
+element-copy-out-if3 : tie.Need-element-copy-out-if3
+element-copy-out-if3 c = search needs
+
+returns-3 : tie.Need-returns-3
+returns-3 c =
+    let x = c .before .before .before .before .before .before .before .before .before .before .before .before .before .args in
+    let w = c .before .before .before .before .before .before .before .before .before .before .before .before .before .pre in
+    let s = sideOf (x .late) in
+    let n = (netOf (arcsOf (x .source .now) (x .lead .now) (x .cycle)) (x .first .now) (x .launch .now) (x .latch .now)) in
+    let D = timesOf (x .departs .now) in
+    let d = rw (c .before .before .before .before .before .before .before .before .before .index .ensures .0, c .before .before .before .before .before .before .before .index2 .ensures .0) at (c .before .before .before .before .deciding .ensures) in
+    let f = c .before .before .before .before .before .before .before .before .before .index .ensures .0 in
+    let e = c .before .before .before .before .before .before .before .index2 .ensures .0 in
+    let a = raised-arc s n D (x .i) (eq-eqb _ 1 (c .before .before .before .before .before .before .before .before .before .before .before .if1 .left)) (omega (arith, c .before .before .before .before .before .before .if2 .left, f, e)) in
+    stays (a ∙ omega (arith, c .if3 .taken, c .before .before .bring .ensures .0, d .brings))
+
+mul-departs : tie.Need-mul-departs
+mul-departs c = search needs
+
+element-write-departs : tie.Need-element-write-departs
+element-write-departs c = search needs
+
+narrow-requires : tie.Need-narrow-requires
+narrow-requires c κs = search needs
+
+mul-parents : tie.Need-mul-parents
+mul-parents c = search needs
+
+element-write-parents : tie.Need-element-write-parents
+element-write-parents c = search needs
+
+returns-4 : tie.Need-returns-4
+returns-4 c =
+    let x = c .before .before .before .before .before .before .before .before .before .before .before .before .before .before .args in
+    let w = c .before .before .before .before .before .before .before .before .before .before .before .before .before .before .pre in
+    let s = sideOf (x .late) in
+    let n = (netOf (arcsOf (x .source .now) (x .lead .now) (x .cycle)) (x .first .now) (x .launch .now) (x .latch .now)) in
+    let D = timesOf (x .departs .now) in
+    let d = rw (c .before .before .before .before .before .before .before .before .before .before .index .ensures .0, c .before .before .before .before .before .before .before .before .index2 .ensures .0) at (c .before .before .before .before .before .deciding .ensures) in
+    let f = c .before .before .before .before .before .before .before .before .before .before .index .ensures .0 in
+    let e = c .before .before .before .before .before .before .before .before .index2 .ensures .0 in
+    let a = raised-arc s n D (x .i) (eq-eqb _ 1 (c .before .before .before .before .before .before .before .before .before .before .before .before .if1 .left)) (omega (arith, c .before .before .before .before .before .before .before .if2 .left, f, e)) in
+    let up : c .before .before .before .bring .result ≡ raised s n D (x .i) = sym (a ∙ omega (arith, c .before .if3 .left, c .before .before .before .bring .ensures .0, d .brings)) in
+    rw (up, c .narrow .ensures) (rises (c .before .before .before .before .before .deciding .result) (rw (← up) (omega (arith, c .before .if3 .left))) d)
+
+pub raise-spec : {M : Type 1} → statement M
+raise-spec =
+    tie.close
+    (tie.spec
+    element-copy-out-if1
+    returns
+    mul-index
+    element-copy-out-index
+    index-requires
+    add-index
+    mul-index-2
+    element-copy-out-index-2
+    index-requires-2
+    returns-2
+    deciding-requires
+    bring-requires
+    mul-if3
+    element-copy-out-if3
+    returns-3
+    mul-departs
+    element-write-departs
+    narrow-requires
+    mul-parents
+    element-write-parents
+    returns-4)

@@ -1,0 +1,203 @@
+// An order in which passes try the synchronizers where they go on for long: those that feed a latch come before it, wherever no ring forbids that. Then
+// one pass settles all that hangs on no ring, however the synchronizers are numbered.
+// A walk goes from each synchronizer back over the arcs that enter it, and lists a synchronizer when it has seen all that feed it. The order changes
+// only how long the passes take: who is not listed by the walk is listed after it.
+ghost use mathlib.Core.Path.{_≡_};
+ghost use Prim.Native.Nat.{ℕ, _+_, _≤_, _<_};
+ghost use lib.ListN.{length, getD};
+ghost use Rattle.tables.specs.Net.{timesOf};
+ghost use Rattle.tables.specs.Listing.{Listed, fromEnd, Enlisted, Order, Stacked};
+ghost use Rattle.tables.proofs.Filled.{Filled};
+use crate::arrive::index;
+use crate::arrive::narrow;
+use crate::lists::enlist;
+
+// More steps than a walk has: it goes over each arc once, and leaves each synchronizer once.
+const STEPS: usize = 4096;
+
+// Stacks a synchronizer that the walk has not seen. Says how high the stack is.
+fn push(
+    first: &[u16; 513],
+    l: usize,
+    i: u16,
+    depth: usize,
+    seen: &mut [u8; 512],
+    stack: &mut [u16; 512],
+    ahead: &mut [u16; 512],
+) -> usize
+    requires { ⌜ (l ≤ 512) × (i < l) ⌝ }
+    requires { ⌜ Stacked l (now stack) depth ⌝ }
+    ensures { λ r. ⌜ Stacked l (now (stack .exit)) r ⌝ }
+{
+    if seen[index(i)] == 1 {
+        return depth;
+    }
+    if depth >= l {
+        return depth;
+    }
+    seen[index(i)] = 1;
+    stack[depth] = i;
+    ahead[depth] = first[index(i)];
+    depth + 1
+}
+
+// Behind the last arc that feeds a synchronizer. Nothing feeds a flip-flop: it departs when it departs.
+fn end(first: &[u16; 513], latch: &[u8; 512], i: usize) -> u16
+    requires { ⌜ i < 512 ⌝ }
+    ensures { λ r. ⌜ r ≤ timesOf (now (first .entry)) (i + 1) ⌝ }
+{
+    if latch[i] == 1 { first[i + 1] } else { 0 }
+}
+
+struct Spot {
+    depth: usize,
+    count: usize,
+}
+
+// One step of the walk: over the next arc that feeds the synchronizer on top; where there is none, that one is listed and leaves the stack.
+fn step(
+    source: &[u16; 2048],
+    first: &[u16; 513],
+    latch: &[u8; 512],
+    l: usize,
+    m: usize,
+    depth: usize,
+    seen: &mut [u8; 512],
+    stack: &mut [u16; 512],
+    ahead: &mut [u16; 512],
+    count: usize,
+    marks: &mut [u16; 512],
+    list: &mut [u16; 512],
+) -> Spot
+    requires { ⌜ (l ≤ 512) × (m ≤ 2048) × (0 < depth) ⌝ }
+    requires { ⌜ ((a : ℕ) → a < m → timesOf (now source) a < l) × ((i : ℕ) → i < l → timesOf (now first) (i + 1) ≤ m) ⌝ }
+    requires { ⌜ Stacked l (now stack) depth ⌝ }
+    requires { ⌜ Enlisted l 1 (now marks) (now list) count ⌝ }
+    ensures { λ r. ⌜ Stacked l (now (stack .exit)) (r .depth) ⌝ }
+    ensures { λ r. ⌜ Enlisted l 1 (now (marks .exit)) (now (list .exit)) (r .count) ⌝ }
+    ensures { λ r. ⌜ ((j : ℕ) → Listed (timesOf (now (list .entry))) count j → Listed (timesOf (now (list .exit))) (r .count) j) ⌝ }
+{
+    let top = depth - 1;
+    let i = stack[top];
+    let a = ahead[top];
+    if a < end(first, latch, index(i)) {
+        ahead[top] = a + 1;
+        let feeds = source[index(a)];
+        return Spot {
+            depth: push(first, l, feeds, depth, seen, stack, ahead),
+            count: count,
+        };
+    }
+    Spot {
+        depth: top,
+        count: enlist(1, i, l, count, marks, list),
+    }
+}
+
+// The walk back from synchronizer i. Says how many are listed.
+fn explore(
+    source: &[u16; 2048],
+    first: &[u16; 513],
+    latch: &[u8; 512],
+    l: usize,
+    m: usize,
+    i: u16,
+    seen: &mut [u8; 512],
+    stack: &mut [u16; 512],
+    ahead: &mut [u16; 512],
+    count: usize,
+    marks: &mut [u16; 512],
+    list: &mut [u16; 512],
+) -> usize
+    requires { ⌜ (l ≤ 512) × (m ≤ 2048) × (i < l) ⌝ }
+    requires { ⌜ ((a : ℕ) → a < m → timesOf (now source) a < l) × ((i : ℕ) → i < l → timesOf (now first) (i + 1) ≤ m) ⌝ }
+    requires { ⌜ length (now stack) ≡ 512 ⌝ }
+    requires { ⌜ Enlisted l 1 (now marks) (now list) count ⌝ }
+    ensures { λ r. ⌜ length (now (stack .exit)) ≡ 512 ⌝ }
+    ensures { λ r. ⌜ Enlisted l 1 (now (marks .exit)) (now (list .exit)) r ⌝ }
+    ensures { λ r. ⌜ ((j : ℕ) → Listed (timesOf (now (list .entry))) count j → Listed (timesOf (now (list .exit))) r j) ⌝ }
+{
+    let mut depth = push(first, l, i, 0, seen, stack, ahead);
+    let mut listed = count;
+    let mut n: usize = 0;
+    while n < STEPS {
+        if depth == 0 {
+            return listed;
+        }
+        let spot = step(
+            source,
+            first,
+            latch,
+            l,
+            m,
+            depth,
+            seen,
+            stack,
+            ahead,
+            listed,
+            marks,
+            list,
+        );
+        depth = spot.depth;
+        listed = spot.count;
+        n += 1;
+    }
+    listed
+}
+
+// The list from its end: so a pass takes it.
+fn turn_over(list: &[u16; 512], l: usize, order: &mut [u16; 512])
+    requires { ⌜ l ≤ 512 ⌝ }
+    requires { ⌜ length (now order) ≡ 512 ⌝ }
+    ensures { λ _. ⌜ Filled 512 (fromEnd (timesOf (now (list .entry))) l) (now (order .exit)) l ⌝ }
+{
+    let mut x: usize = 0;
+    while x < l {
+        order[x] = list[l - 1 - x];
+        x += 1;
+    }
+}
+
+// Lists all l synchronizers.
+pub(crate) fn arrange(
+    source: &[u16; 2048],
+    first: &[u16; 513],
+    latch: &[u8; 512],
+    l: usize,
+    m: usize,
+    order: &mut [u16; 512],
+)
+    requires { ⌜ (l ≤ 512) × (m ≤ 2048) ⌝ }
+    requires { ⌜ ((a : ℕ) → a < m → timesOf (now source) a < l) × ((i : ℕ) → i < l → timesOf (now first) (i + 1) ≤ m) ⌝ }
+    requires { ⌜ length (now order) ≡ 512 ⌝ }
+    ensures { λ _. ⌜ length (now (order .exit)) ≡ 512 ⌝ }
+    ensures { λ _. ⌜ Order l (timesOf (now (order .exit))) ⌝ }
+{
+    let mut seen = [0u8; 512];
+    let mut stack = [0u16; 512];
+    let mut ahead = [0u16; 512];
+    let mut marks = [0u16; 512];
+    let mut list = [0u16; 512];
+    let mut count: usize = 0;
+    let mut i: usize = 0;
+    while i < l {
+        let node = narrow(i);
+        let listed = explore(
+            source,
+            first,
+            latch,
+            l,
+            m,
+            node,
+            &mut seen,
+            &mut stack,
+            &mut ahead,
+            count,
+            &mut marks,
+            &mut list,
+        );
+        count = enlist(1, node, l, listed, &mut marks, &mut list);
+        i += 1;
+    }
+    turn_over(&list, l, order);
+}
