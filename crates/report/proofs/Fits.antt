@@ -34,7 +34,7 @@ module _ (bytes : List ℕ) where
   unfolding textOf
   text-fits (refused {rule} {culprit} e) =
       let h = refused-small rule culprit bytes e in
-      omega (arith, refused-few rule culprit (omega (arith, h .0)) (omega (arith, h .1)))
+      omega (arith, refused-few rule culprit (omega (arith, h .1)) (omega (arith, h .2)))
   text-fits (few-numbers ok h) = omega (arith, refused-few 10 0 (omega arith) (omega arith))
   text-fits (few-arcs ok l h) = omega (arith, refused-few 11 0 (omega arith) (omega arith))
   text-fits (growing {count} {gain} {shown} s ring) =

@@ -1,4 +1,4 @@
--- The numbers of a refusal are small: the rule is one of nine, and the record is one of a table's, whose count has passed its limit.
+-- The numbers of a refusal are small: the rule is one of nine, from 1 on, and the record is one of a table's, whose count has passed its limit.
 use mathlib.Core.Path.{_≡_, refl}
 use mathlib.Core.Bool.{Bool, true, false, not}
 use mathlib.Core.List.{List}
@@ -18,7 +18,7 @@ use Rattle.image.proofs.Lowest.{lowest-is}
 use Rattle.image.proofs.Tests.{ltb-iff, or-iff}
 
 abbrev pub Few : ℕ → ℕ → Type 0
-Few rule culprit = (rule ≤ 9) × (culprit ≤ 2048)
+Few rule culprit = (1 ≤ rule) × (rule ≤ 9) × (culprit ≤ 2048)
 
 counts-few : (h : Header) → badCounts h ≡ false →
     (((1 ≤ h .phases) × (h .phases ≤ mostPhases)) × (h .synchronizers ≤ mostSynchronizers)) × (h .arcs ≤ mostArcs)
@@ -33,13 +33,13 @@ module _ (rule culprit : ℕ) where
   later true r c rest e h =
       let p : r ≡ rule = cc in
       let q : c ≡ culprit = cc in
-      inl (omega arith, omega arith)
+      inl (omega arith, omega arith, omega arith)
   later false r c rest e h = inr (refl, e)
 
   -- a rule about a table of few records
-  later-table : (bad : ℕ → Bool) (n r : ℕ) (rest : Checked) → refuseAt bad n r rest ≡ Refused rule culprit → r ≤ 9 → n ≤ 2048 →
+  later-table : (bad : ℕ → Bool) (n r : ℕ) (rest : Checked) → refuseAt bad n r rest ≡ Refused rule culprit → 1 ≤ r → r ≤ 9 → n ≤ 2048 →
       Later (ltb (lowestOf bad n) n) rest
-  later-table bad n r rest e h l = later (ltb (lowestOf bad n) n) r (lowestOf bad n) rest e (h, omega (arith, lowest-is bad n .within))
+  later-table bad n r rest e some h l = later (ltb (lowestOf bad n) n) r (lowestOf bad n) rest e (some, h, omega (arith, lowest-is bad n .within))
 
   module _ (bytes : List ℕ) where
     -- rules 6 to 9, where the counts are within their limits
@@ -48,13 +48,13 @@ module _ (rule culprit : ℕ) where
     table-small counts e =
         let few = counts-few (headerOf bytes) counts in
         let image = imageOf (headerOf bytes) in
-        elim (later-table (breaksOf bytes image Phases) (image .phases) 6 _ e (omega arith) (omega (arith, few .0 .0 .1))) [
+        elim (later-table (breaksOf bytes image Phases) (image .phases) 6 _ e (omega arith) (omega arith) (omega (arith, few .0 .0 .1))) [
           | inl f ↦ f
-          | inr a ↦ elim (later-table (breaksOf bytes image Synchronizers) (image .synchronizers) 7 _ (a .1) (omega arith) (omega (arith, few .0 .1))) [
+          | inr a ↦ elim (later-table (breaksOf bytes image Synchronizers) (image .synchronizers) 7 _ (a .1) (omega arith) (omega arith) (omega (arith, few .0 .1))) [
             | inl f ↦ f
-            | inr b ↦ elim (later-table (breaksOf bytes image Arcs) (image .arcs) 8 _ (b .1) (omega arith) (omega (arith, few .1))) [
+            | inr b ↦ elim (later-table (breaksOf bytes image Arcs) (image .arcs) 8 _ (b .1) (omega arith) (omega arith) (omega (arith, few .1))) [
               | inl f ↦ f
-              | inr c ↦ elim (later-table (breaksOf bytes image Order) (image .arcs) 9 _ (c .1) (omega arith) (omega (arith, few .1))) [
+              | inr c ↦ elim (later-table (breaksOf bytes image Order) (image .arcs) 9 _ (c .1) (omega arith) (omega arith) (omega (arith, few .1))) [
                 | inl f ↦ f
                 | inr d ↦ let g = d .1 in let z : _≡_ {A = ℕ} 0 1 = cc in let k : ⊥ = omega arith in absurd k
               ]

@@ -1,0 +1,14 @@
+// The C interface: the four questions of this library as functions that C can call, with answers that C can read. Each calls the Rattle
+// call of the same name and turns its answer, an enum, into a struct of numbers. None has a condition, and none keeps anything.
+mod calls;
+mod checked;
+mod found;
+mod timed;
+
+pub use calls::neelukudam_check;
+pub use calls::neelukudam_path;
+pub use calls::neelukudam_report;
+pub use calls::neelukudam_timing;
+pub use checked::CheckAnswer;
+pub use found::PathAnswer;
+pub use timed::TimingAnswer;
