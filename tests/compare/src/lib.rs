@@ -1,0 +1,6 @@
+//! Document 01 in plain Rust, the library behind its C interface, and circuits to hold one against the other.
+
+pub mod images;
+pub mod independent;
+pub mod known;
+pub mod linked;
