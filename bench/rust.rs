@@ -1,0 +1,16 @@
+// The independent Rust implementation behind a C function.
+use independent::Timing;
+
+/// # Safety
+/// The pointers and lengths must be those of live buffers that do not overlap.
+#[no_mangle]
+pub unsafe extern "C" fn run_rust(image: *const u8, n: usize, results: *mut i64, results_len: usize, arcs: *mut u32, arcs_len: usize) -> u32 {
+    let image = std::slice::from_raw_parts(image, n);
+    let results = std::slice::from_raw_parts_mut(results, results_len);
+    let arcs = std::slice::from_raw_parts_mut(arcs, arcs_len);
+    match independent::timing(image, results, arcs) {
+        Ok(Timing::Timed { .. }) => 0,
+        Ok(Timing::Growing { .. }) => 1,
+        Err(_) => 2,
+    }
+}
