@@ -1,7 +1,7 @@
 -- A walk back over arcs that each enter the node before. The first node that comes twice closes a ring of distinct nodes, which may be started
 -- at any place between.
 use mathlib.Core.Path.{_≡_, sym, ap}
-use mathlib.Core.List.{List, [], _++_}
+use mathlib.Core.List.{List, _++_}
 use mathlib.Core.Logic.{_≢_}
 use Prim.Native.Nat.{ℕ, zero, suc, _+_, _-_, _<_, _≤_}
 use native.Mathlib.Omega.{arith}

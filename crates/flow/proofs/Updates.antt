@@ -5,7 +5,7 @@ use Prim.Native.Nat.{ℕ, suc, _≤_}
 use native.Mathlib.Decide.{ℕ-discrete}
 use lib.IntN.{ℤ}
 use lib.Signed.{_≤ℤ_}
-use Rattle.ticks.proofs.Order.{≤ℤ-trans, ≤ℤ-antisym, ≤ℤ-eq}
+use Rattle.ticks.proofs.Order.{≤ℤ-trans, ≤ℤ-eq}
 use Rattle.flow.specs.Flow.{Flow, Good, Side, late, next, round, Fits, Least}
 use Rattle.flow.specs.Bounds.{Bounded}
 use Rattle.flow.specs.Updates.{Update, Updated, launched, updated}

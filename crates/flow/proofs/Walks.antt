@@ -43,9 +43,6 @@ module _ (f : Flow) (D : ℕ → ℤ) (holds : Holds f D) where
   holds-calm r = holds-closed (r .ring .path) (r .ring .start) (r .ring .closed) (r .grows)
 
 module _ (f : Flow) (good : Good f) (D : ℕ → ℤ) (fits : Fits late f D) where
-  pub fits-closed : (p : List ℕ) (i : ℕ) → Walk f i p i → pos 0 <ℤ gain f p → ⊥
-  fits-closed = holds-closed f D (fits-holds f good D fits)
-
   pub fits-calm : GrowingRing f → ⊥
   fits-calm = holds-calm f D (fits-holds f good D fits)
 

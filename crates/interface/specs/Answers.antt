@@ -1,6 +1,5 @@
 -- The struct that each case of a Rattle answer becomes: document 01's number and values, and 0 in a field that does not apply.
-use Prim.Native.Nat.{ℕ}
-use lib.IntN.{ℤ, pos}
+use lib.IntN.{pos}
 use Rattle.image.specs.declared.checks.Checked.{Checked}
 use Rattle.image.specs.declared.checks.Checked.the-variants as check
 use Rattle.timing.specs.declared.call.Answer.{Answer}

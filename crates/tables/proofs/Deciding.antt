@@ -8,7 +8,7 @@ use native.Mathlib.Omega.{arith}
 use lib.ListN.{getD, set}
 use borrow.Author.Tests.{eq-eqb, ne-eqb}
 use Rattle.flow.specs.Flow.{Side, late, early}
-use Rattle.tables.specs.Net.{Arcs, Net, timesOf, brought, better, unseen, best, degree, arrivalN}
+use Rattle.tables.specs.Net.{Arcs, Net, timesOf, brought, better, unseen, degree, arrivalN}
 use Rattle.tables.specs.Raise.{raised, Decides, Tried, stays, rises}
 use Rattle.tables.proofs.Best.{best-none, best-more}
 

@@ -2,7 +2,6 @@
 use mathlib.Core.Path.{_≡_, refl, sym, ap, _∙_}
 use mathlib.Core.Bool.{cond}
 use mathlib.Core.List.{List}
-use mathlib.Core.Logic.{_⊎_, inl, inr}
 use Prim.Native.Nat.{ℕ, suc, _+_, _-_, _<_, _≤_}
 use native.Mathlib.Omega.{arith}
 use native.Mathlib.Decide.{decLt, ℕ-discrete}
@@ -10,7 +9,7 @@ use lib.Dec.{eqb}
 use lib.ListN.{length, getD, set, length-set}
 use lib.Seq.{getD-set-same, getD-set-other}
 use borrow.Author.Tests.{eq-eqb, ne-eqb}
-use Rattle.flow.proofs.Below.{some-or-all, pigeons}
+use Rattle.flow.proofs.Below.{pigeons}
 use Rattle.tables.specs.Net.{timesOf}
 use Rattle.tables.specs.Listing.{Listed, fromEnd, Enlisted, Order, Stacked}
 
@@ -21,11 +20,6 @@ listed-more list n j h = (h .0, omega (arith, h .1), h .2)
 -- lists that agree below n
 pub listed-same : (list other : ℕ → ℕ) (n j : ℕ) → ((x : ℕ) → x < n → other x ≡ list x) → Listed list n j → Listed other n j
 listed-same list other n j same h = (h .0, h .1, same (h .0) (h .1) ∙ h .2)
-
--- the whole list, or no place of it
-pub listed-or : (list : ℕ → ℕ) (n j : ℕ) → Listed list n j ⊎ ((x : ℕ) → x < n → list x ≡ j → ⊥)
-listed-or list n j = elim (some-or-all (λ x. list x ≡ j) (λ x. list x ≡ j → ⊥) n
-    (λ x l. elim (ℕ-discrete (list x) j) [ yes e ↦ inl e | no d ↦ inr d ])) [ inl h ↦ inl h | inr h ↦ inr h ]
 
 -- read from its end, a list has the same nodes
 pub listed-turned : (list : ℕ → ℕ) (n j : ℕ) → Listed list n j → Listed (fromEnd list n) n j

@@ -7,14 +7,11 @@ use native.Mathlib.Decide.{ℕ-discrete}
 use lib.Dec.{eqb}
 use borrow.Author.Tests.{ne-eqb}
 use Rattle.ticks.specs.Raised.{RAISE, lower}
-use Rattle.ticks.proofs.Order.{≤ℤ-antisym}
-use Rattle.ticks.proofs.Raised.{lower-le, le-lower, lower-injective}
-use Rattle.flow.specs.Flow.{Flow, Good, Side, late, early, next, round, Fits, Least, Settled}
-use Rattle.flow.specs.Bounds.{Bounded, Agree}
+use Rattle.ticks.proofs.Raised.{lower-le, le-lower}
+use Rattle.flow.specs.Flow.{Flow, Good, Side, late, early, next, round, Fits, Least}
+use Rattle.flow.specs.Bounds.{Bounded}
 use Rattle.flow.specs.Updates.{Updated, launched, updated}
-use Rattle.flow.proofs.Updates.{updated-rises, updated-fits, updated-least, pass-round}
-use Rattle.flow.proofs.Rounds.{settled-least}
-use Rattle.flow.proofs.Agree.{least-agree}
+use Rattle.flow.proofs.Updates.{updated-rises, updated-least, pass-round}
 use Rattle.tables.specs.Net.{Arcs, Net, brought, better, best, degree, arrivalN, departing, departN, Shaped, Ranged}
 use Rattle.tables.specs.Models.{Models}
 use Rattle.tables.specs.Raise.{raised, Raise, Risen, at-launch, raise, Passed, none, pass, Modest}
@@ -179,14 +176,3 @@ module _ (s : Side) (n : Net) (l m : ℕ) (shaped : Shaped n l m) (modest : Mode
         let j = rw same at here in
         let e = depart-models s n f good models D (rw same g) i here in
         rw (← e) (lower-le (step (depart-raised D i (passed-launch s n l m shaped h i j)) (r i j)))) j here
-
-    -- where round k settles, k passes have settled
-    pub passed-settled : (k : ℕ) → Settled s f k → {p : ℕ} {D : ℕ → ℕ} → Passed s n l k D → Risen s n l p D → p ≤ 262144 →
-        (i : ℕ) → i < l → raised s n D i ≡ D i
-    passed-settled k done {p} {D} passed h few i here =
-        let u = risen-updated h few in
-        let least = settled-least s f good k done in
-        let agree : Agree f (round s f k) (lowered D) =
-        λ j l. ≤ℤ-antisym (passed-round passed j l) (updated-fits s f good (round s f k) (least .fits) u j l) in
-        let fits = least-agree f good (round s f k) (lowered D) agree s least .fits i (rw same here) in
-        lower-injective _ _ (raised-next h few u i here ∙ sym fits)

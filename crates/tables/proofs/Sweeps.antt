@@ -30,13 +30,6 @@ or-second false b e = e
 or-second true b e = let z : _≡_ {A = ℕ} 0 1 = cc in let y : ⊥ = omega arith in absurd y
 
 module _ (n : Net) (l m : ℕ) (shaped : Shaped n l m) (D : ℕ → ℕ) where
-  -- before the first sweep
-  pub ranked-first : (i : ℕ) → D i ≡ n .launch i → RankedTo n D 1 i 0
-  ranked-first i e = inl (omega arith, record { holds = e; lowest = λ q k h. omega arith })
-
-  pub ranked-not : (i : ℕ) → (D i ≡ n .launch i → ⊥) → RankedTo n D 1 i NONE
-  ranked-not i d = inr (refl, λ q k h. let e : q ≡ 0 = omega arith in d (rw e at h))
-
   module _ (R : ℕ → ℕ) (r : ℕ) (few : r < 65535) (all : (j : ℕ) → j < l → RankedTo n D (suc r) j (R j)) (i : ℕ) (here : i < l) where
     -- a rank that is known stays
     pub sweep-known : (R i ≡ NONE → ⊥) → RankedTo n D (suc (suc r)) i (R i)

@@ -4,7 +4,7 @@
 // only how long the passes take: who is not listed by the walk is listed after it.
 ghost use mathlib.Core.Path.{_≡_};
 ghost use Prim.Native.Nat.{ℕ, _+_, _≤_, _<_};
-ghost use lib.ListN.{length, getD};
+ghost use lib.ListN.{length};
 ghost use Rattle.tables.specs.Net.{timesOf};
 ghost use Rattle.tables.specs.Listing.{Listed, fromEnd, Enlisted, Order, Stacked};
 ghost use Rattle.tables.proofs.Filled.{Filled};

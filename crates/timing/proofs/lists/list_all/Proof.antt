@@ -1,5 +1,5 @@
 -- `list_all` fills the list with the numbers below l, the last first.
-use mathlib.Core.Path.{_≡_, refl}
+use mathlib.Core.Path.{_≡_}
 use Prim.Native.Nat.{_-_, _≤_}
 use native.Mathlib.Omega.{arith}
 use Rattle.tables.specs.Listing.{fromEnd}

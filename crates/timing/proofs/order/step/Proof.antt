@@ -1,7 +1,6 @@
 -- `step`: the node on top is a node, so its arcs lie within the tables; it stays and its source may come on top, or it leaves and is listed.
-use Prim.Native.Nat.{_+_, _-_, _<_, _≤_}
+use Prim.Native.Nat.{_-_, _<_}
 use native.Mathlib.Omega.{arith}
-use Rattle.tables.specs.Net.{timesOf}
 use Rattle.tables.proofs.Pending.{stack-less}
 use borrow.Author.Needs.{needs}
 use Rattle.timing.proofs.order.step.Statement.{statement}

@@ -1,6 +1,6 @@
 -- `gives` walks the arcs: none of those before arc a is asked for.
 use mathlib.Core.Path.{_≡_, sym, _∙_}
-use Prim.Native.Nat.{ℕ, _-_, _≤_}
+use Prim.Native.Nat.{_-_, _≤_}
 use native.Mathlib.Omega.{arith}
 use native.Mathlib.Decide.{ℕ-discrete}
 use Rattle.tables.specs.Net.{timesOf, arcsOf}
