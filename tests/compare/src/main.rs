@@ -12,6 +12,8 @@ use compare::known;
 use compare::linked::{Library, TimingAnswer};
 use std::collections::BTreeMap;
 use std::fmt::Debug;
+use std::sync::atomic::{AtomicUsize, Ordering};
+use std::sync::Mutex;
 use std::time::Instant;
 
 const SEED: u64 = 0x6E65_656C_756B_7564;
@@ -85,6 +87,18 @@ impl Comparison {
             longest_loop: 0,
             greatest_number: 0,
         }
+    }
+
+    /// Counts what another comparison saw as well.
+    fn join(&mut self, other: Comparison) {
+        self.library.calls += other.library.calls;
+        self.images += other.images;
+        for (kind, count) in other.seen {
+            *self.seen.entry(kind).or_default() += count;
+        }
+        self.longest_path = self.longest_path.max(other.longest_path);
+        self.longest_loop = self.longest_loop.max(other.longest_loop);
+        self.greatest_number = self.greatest_number.max(other.greatest_number);
     }
 
     fn see(&mut self, call: &'static str, refusal: u32, otherwise: &str) {
@@ -320,13 +334,51 @@ fn judge_loop_text(image: &[u8], text: &[u8]) -> Result<(), String> {
 
 // ---- The parts of the comparison. ----
 
-/// Runs one part, and prints what it came to.
-fn part(comparison: &mut Comparison, name: &str, work: impl FnOnce(&mut Comparison) -> Result<(), String>) -> Result<(), String> {
+/// A part: its name, and what it does. Parts need nothing of each other.
+type Part = (String, Box<dyn Fn(&mut Comparison) -> Result<(), String> + Sync>);
+
+/// What one part came to: the line that is printed of it, or the disagreement.
+fn run_part(comparison: &mut Comparison, seed: u64, (name, work): &Part) -> Result<String, String> {
     let (images, calls, since) = (comparison.images, comparison.library.calls, Instant::now());
+    comparison.random = Random::new(seed_of(seed, name, 0));
     work(comparison)?;
     let (images, calls) = (comparison.images - images, comparison.library.calls - calls);
-    println!("{name}: {images} images, {calls} calls, {:.1} s", since.elapsed().as_secs_f64());
-    Ok(())
+    Ok(format!("{name}: {images} images, {calls} calls, {:.1} s", since.elapsed().as_secs_f64()))
+}
+
+/// Runs the parts, as many at a time as there are processors; after a disagreement no further one is begun. The lines come in the parts'
+/// order, up to the disagreement.
+fn run_parts(parts: &[Part], seed: u64) -> Result<Comparison, String> {
+    let next = AtomicUsize::new(0);
+    let said = Mutex::new(BTreeMap::new());
+    let worker = || {
+        let mut comparison = Comparison::new();
+        loop {
+            let number = next.fetch_add(1, Ordering::Relaxed);
+            match parts.get(number) {
+                Some(part) => {
+                    let line = run_part(&mut comparison, seed, part);
+                    if line.is_err() {
+                        next.store(parts.len(), Ordering::Relaxed);
+                    }
+                    said.lock().unwrap().insert(number, line);
+                }
+                None => return comparison,
+            }
+        }
+    };
+    let many = std::thread::available_parallelism().map_or(1, |many| many.get());
+    let mut all = Comparison::new();
+    std::thread::scope(|scope| {
+        let workers: Vec<_> = (0..many).map(|_| scope.spawn(worker)).collect();
+        for worker in workers {
+            all.join(worker.join().expect("a part does not panic"));
+        }
+    });
+    for line in said.into_inner().unwrap().into_values() {
+        println!("{}", line?);
+    }
+    Ok(all)
 }
 
 /// What is printed at a disagreement.
@@ -343,19 +395,22 @@ fn seed_of(seed: u64, kind: &str, number: u64) -> u64 {
     Random::new(seed ^ Random::new(kind).draw()).draw() ^ Random::new(number).draw()
 }
 
-fn compare(seed: u64, percent: u64) -> Result<Comparison, String> {
-    let share = |count: u64| (count * percent / 100).max(1);
-    let mut comparison = Comparison::new();
-    let c = &mut comparison;
+fn part(parts: &mut Vec<Part>, name: &str, work: impl Fn(&mut Comparison) -> Result<(), String> + Sync + 'static) {
+    parts.push((name.to_string(), Box::new(work)));
+}
 
-    part(c, "known circuits", |c| {
+fn compare(seed: u64, percent: u64) -> Result<Comparison, String> {
+    let share = move |count: u64| (count * percent / 100).max(1);
+    let mut parts: Vec<Part> = Vec::new();
+
+    part(&mut parts, "known circuits", move |c| {
         for (name, image) in known::all() {
             told(c.image(&image), name, 0, &[&image])?;
         }
         Ok(())
-    })?;
+    });
 
-    part(c, "at the limits", |c| {
+    part(&mut parts, "at the limits", move |c| {
         for (name, image) in images::at_limits() {
             told(c.image(&image), name, 0, &[&image])?;
             // The path that takes every arc of a ring comes back to one of these.
@@ -366,12 +421,12 @@ fn compare(seed: u64, percent: u64) -> Result<Comparison, String> {
             }
         }
         Ok(())
-    })?;
+    });
 
     for (size, count) in SIZES {
         for (name, maker) in MAKERS {
             let kind = format!("{name}, {size:?}").to_lowercase();
-            part(c, &kind, |c| {
+            part(&mut parts, &kind.clone(), move |c| {
                 for number in 0..share(count) {
                     let seed = seed_of(seed, &kind, number);
                     c.random = Random::new(seed);
@@ -385,7 +440,7 @@ fn compare(seed: u64, percent: u64) -> Result<Comparison, String> {
                     told(outcome, &kind, seed, &[&image])?;
                 }
                 Ok(())
-            })?;
+            });
         }
     }
 
@@ -397,17 +452,18 @@ fn compare(seed: u64, percent: u64) -> Result<Comparison, String> {
         whole.push(maker(&mut random, Size::Tiny).0.image());
     }
     for (kind, damage) in [("one byte damaged", images::damaged as fn(&[u8]) -> Vec<Vec<u8>>), ("cut or longer", images::cut_or_longer)] {
-        part(c, kind, |c| {
+        let whole = whole.clone();
+        part(&mut parts, kind, move |c| {
             for (number, image) in whole.iter().flat_map(|image| damage(image)).enumerate() {
                 let seed = seed_of(seed, kind, number as u64);
                 c.random = Random::new(seed);
                 told(c.image(&image), kind, seed, &[&image])?;
             }
             Ok(())
-        })?;
+        });
     }
 
-    part(c, "words edited", |c| {
+    part(&mut parts, "words edited", move |c| {
         for number in 0..share(4_000) {
             let seed = seed_of(seed, "words edited", number);
             c.random = Random::new(seed);
@@ -423,9 +479,9 @@ fn compare(seed: u64, percent: u64) -> Result<Comparison, String> {
             told(c.image(&image), "words edited", seed, &[&image])?;
         }
         Ok(())
-    })?;
+    });
 
-    part(c, "bytes by chance", |c| {
+    part(&mut parts, "bytes by chance", move |c| {
         for number in 0..share(3_000) {
             let seed = seed_of(seed, "bytes by chance", number);
             c.random = Random::new(seed);
@@ -433,9 +489,9 @@ fn compare(seed: u64, percent: u64) -> Result<Comparison, String> {
             told(c.image(&image), "bytes by chance", seed, &[&image])?;
         }
         Ok(())
-    })?;
+    });
 
-    part(c, "narrowing", |c| {
+    part(&mut parts, "narrowing", move |c| {
         for number in 0..share(3_000) {
             let seed = seed_of(seed, "narrowing", number);
             c.random = Random::new(seed);
@@ -452,9 +508,9 @@ fn compare(seed: u64, percent: u64) -> Result<Comparison, String> {
             told(c.narrowing(&first, &second), "narrowing", seed, &[&first.image(), &second.image()])?;
         }
         Ok(())
-    })?;
+    });
 
-    Ok(comparison)
+    run_parts(&parts, seed)
 }
 
 /// What circuits must have shown.
