@@ -6,8 +6,8 @@ crates/neelukudam/stdin and stdout, which is P1.
 `python3 tests/circuits.py --check` only compares, and ends with status 1 where something differs.
 `python3 tests/circuits.py FILE...` prints the report of each image file.
 
-The reports come from the engine below. It was written from document 01 alone: ways are lengthened arc by arc, in one list, until nothing
-changes. The two texts that document 01 prints are held against it by hand.
+The reports come from the engine below. It was written from document 01: departures are raised in place until nothing changes. The two texts
+that document 01 prints are held against it by hand.
 """
 import pathlib
 import struct
@@ -41,69 +41,97 @@ def weights(tc, phases, synchronizers, arcs, least):
     ]
 
 
-def solve(start, latch, arcs, weight, best):
-    """Departures raised in place until they fit, or None where they rise for ever."""
+def solve(start, latch, arcs, weight, best, order=None):
+    """Departures raised in place, in the order given, until they fit; or None where they rise for ever."""
+    entering, leaving = [[] for _ in start], [[] for _ in start]
+    for (a, b, *_), w in zip(arcs, weight):
+        if latch[b]:
+            entering[b].append((a, w))
+            leaving[a].append(b)
     departs = list(start)
+    due = [bool(times) for times in entering]
     for _ in range(len(start) + 1):
-        changed = False
-        for i in range(len(start)):
-            times = [departs[a] + w for (a, b, *_), w in zip(arcs, weight) if b == i]
-            if latch[i] and times and max(best(times), start[i]) != departs[i]:
-                departs[i] = max(best(times), start[i])
-                changed = True
-        if not changed:
+        for i in order or range(len(start)):
+            if due[i]:
+                due[i] = False
+                time = max(start[i], best(departs[a] + w for a, w in entering[i]))
+                if time != departs[i]:
+                    departs[i] = time
+                    for b in leaving[i]:
+                        due[b] = True
+        if not any(due):
             return departs
     return None
 
 
-def ring(latch, arcs, weight):
-    """A ring of distinct latches whose gain is above zero, by trying them all: for small circuits."""
-
-    def search(path, nodes, gain):
+def ring(start, latch, arcs, weight):
+    """A ring of latches whose gain is above zero. After as many rounds as there are latches some departure still rises: the way back
+    over the arcs that raised last passes some latch twice."""
+    departs, raised = list(start), [None] * len(start)
+    for _ in range(len(start) + 1):
         for x, ((a, b, *_), w) in enumerate(zip(arcs, weight)):
-            if a != nodes[-1] or not latch[b]:
-                continue
-            if b == nodes[0] and gain + w > 0:
-                return path + [x], gain + w
-            if b not in nodes and b > nodes[0]:
-                found = search(path + [x], nodes + [b], gain + w)
-                if found:
-                    return found
-        return None
+            if latch[b] and departs[a] + w > departs[b]:
+                departs[b], raised[b], last = departs[a] + w, x, b
+    passed = []
+    while last not in passed:
+        passed.append(last)
+        last = arcs[raised[last]][0]
+    around = [raised[b] for b in reversed(passed[passed.index(last):])]
+    first = min(range(len(around)), key=lambda step: arcs[around[step]][0])
+    around = around[first:] + around[:first]
+    gain = sum(weight[x] for x in around)
+    assert gain > 0, "no ring grows"
+    return around, gain
 
-    for start in range(len(latch)):
-        found = latch[start] and search([], [start], 0)
-        if found:
-            return found
-    raise AssertionError("no ring grows")
+
+def flow(circuit):
+    """Which synchronizers are latches, when each departs at the earliest, and what each arc adds, at most and at least."""
+    tc, phases, synchronizers, _ = circuit
+    latch = [kind == 0 for _, kind, *_ in synchronizers]
+    start = [tc - phases[p][1] if kind == 0 else tc for p, kind, *_ in synchronizers]
+    return latch, start, weights(*circuit, False), weights(*circuit, True)
+
+
+def six(circuit, late):
+    """The six results of each synchronizer, from the late departures."""
+    tc, _, synchronizers, arcs = circuit
+    latch, start, most, least = flow(circuit)
+    early = solve(start, latch, arcs, least, min)
+    brought = [[] for _ in synchronizers]
+    for (a, b, *_), shortest, longest in zip(arcs, least, most):
+        brought[b].append((early[a] + shortest, late[a] + longest))
+    results = []
+    for i, (_, _, setup, hold, _, _) in enumerate(synchronizers):
+        fields = [early[i], late[i]] + 4 * [MARK]
+        if brought[i]:
+            soonest, latest = min(pair[0] for pair in brought[i]), max(pair[1] for pair in brought[i])
+            fields[2:] = [soonest, latest, soonest - hold, tc - setup - latest]
+        results.append(fields)
+    return results
+
+
+def missed(results):
+    """How many setups and how many holds."""
+    return sum(fields[5] < 0 for fields in results), sum(fields[4] < 0 for fields in results)
+
+
+def row(i, fields):
+    return " ".join([str(i)] + ["-" if x == MARK else str(x) for x in fields]) + "\n"
 
 
 def report(image):
     answer = judge(image)
     if answer != GOOD:
         return "refused %d %d\n" % answer
-    tc, phases, synchronizers, arcs = read(image)
-    latch = [kind == 0 for _, kind, *_ in synchronizers]
-    start = [tc - phases[p][1] if kind == 0 else tc for p, kind, *_ in synchronizers]
-    most = weights(tc, phases, synchronizers, arcs, False)
-    least = weights(tc, phases, synchronizers, arcs, True)
-    late = solve(start, latch, arcs, most, max)
+    circuit = read(image)
+    latch, start, most, _ = flow(circuit)
+    late = solve(start, latch, circuit[3], most, max)
     if late is None:
-        shown, gain = ring(latch, arcs, most)
+        shown, gain = ring(start, latch, circuit[3], most)
         return "loop %d %d\n" % (len(shown), gain) + "".join("%d\n" % a for a in shown)
-    early = solve(start, latch, arcs, least, min)
-    lines, setups, holds = [], 0, 0
-    for i, (_, _, setup, hold, _, _) in enumerate(synchronizers):
-        entered = [x for x, (a, b, *_) in enumerate(arcs) if b == i]
-        fields = [early[i], late[i]] + 4 * [MARK]
-        if entered:
-            soonest = min(early[arcs[x][0]] + least[x] for x in entered)
-            latest = max(late[arcs[x][0]] + most[x] for x in entered)
-            fields[2:] = [soonest, latest, soonest - hold, tc - setup - latest]
-            holds += fields[4] < 0
-            setups += fields[5] < 0
-        lines.append(" ".join([str(i)] + ["-" if x == MARK else str(x) for x in fields]) + "\n")
-    return "timed %d %d %d\n" % (len(synchronizers), setups, holds) + "".join(lines)
+    results = six(circuit, late)
+    lines = [row(i, fields) for i, fields in enumerate(results)]
+    return "timed %d %d %d\n" % (len(results), *missed(results)) + "".join(lines)
 
 
 def circuits():
