@@ -1,4 +1,4 @@
--- `timing_cases::size` is safe: by the report's law no step leaves its word.
+-- `timing_cases::size` is safe: no step leaves its word (`steps`).
 use mathlib.Core.Path.{_≡_}
 use mathlib.Core.Bool.{true}
 use lib.IntN.{ℤ, pos}
@@ -7,7 +7,7 @@ use mir.Syntax.{w64}
 use mir.Val.{SFits}
 use borrow.Author.Needs.{needs}
 use Rattle.ticks.proofs.Order.{ltZ-true}
-use Rattle.report.proofs.Signs.{Steps, worded, word-is, steps, cast-above}
+use Rattle.ticks.proofs.Words.{Steps, worded, word-is, steps, cast-above}
 use Rattle.timing_cases.proofs.size.Statement.{statement}
 use Rattle.timing_cases.proofs.size.Tie as tie
 

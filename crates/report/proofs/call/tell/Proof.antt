@@ -1,5 +1,5 @@
 -- `tell` has timing work, and tells its answer by the function that is for it.
-use Rattle.report.proofs.Signs.{word-is}
+use Rattle.ticks.proofs.Words.{word-is}
 use Rattle.report.proofs.Telling.{arcs-hold, numbers-hold, synchronizers-are, room-for, reported, refused-told, growing-told, timed-told}
 use borrow.Author.Needs.{needs}
 use Rattle.report.proofs.call.tell.Statement.{statement}

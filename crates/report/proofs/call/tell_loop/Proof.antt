@@ -4,7 +4,7 @@ use Rattle.report.specs.Ascii.{ascii}
 use Rattle.report.specs.Text.{each, arcLine}
 use Rattle.report.proofs.Heads.{counted, gained, end, loop-is}
 use Rattle.report.proofs.Writes.{wrote-then, room-first, room-rest}
-use Rattle.report.proofs.Signs.{word-is}
+use Rattle.ticks.proofs.Words.{word-is}
 use borrow.Author.Needs.{needs}
 use Rattle.report.proofs.call.tell_loop.Statement.{statement}
 use Rattle.report.proofs.call.tell_loop.Tie as tie

@@ -1,5 +1,5 @@
 -- `size` adds one, turns the number round and adds one again.
-use Rattle.report.proofs.Signs.{steps}
+use Rattle.ticks.proofs.Words.{steps}
 use Rattle.report.proofs.decimal.size.Statement.{statement}
 use Rattle.report.proofs.decimal.size.Tie as tie
 

@@ -2,7 +2,8 @@
 use mathlib.Core.List.{[], _∷_}
 use lib.IntN.{natAbs}
 use Rattle.report.specs.Decimal.{dash, digits}
-use Rattle.report.proofs.Signs.{worded, signed-below, signed-above, cast-above}
+use Rattle.ticks.proofs.Words.{worded, cast-above}
+use Rattle.report.proofs.Signs.{signed-below, signed-above}
 use Rattle.report.proofs.Writes.{wrote-then, room-first, room-rest}
 use borrow.Author.Needs.{needs}
 use Rattle.report.proofs.decimal.write_signed.Statement.{statement}

@@ -6,7 +6,7 @@ use native.Mathlib.Omega.{arith}
 use Rattle.report.specs.Text.{each}
 use Rattle.report.specs.Written.{Wrote}
 use Rattle.report.proofs.Rows.{field, fields-are}
-use Rattle.report.proofs.Signs.{word-is}
+use Rattle.ticks.proofs.Words.{word-is}
 use Rattle.report.proofs.Writes.{wrote-long, each-none, each-room, each-more, each-all}
 use Rattle.report.proofs.lines.write_six.Statement.{statement}
 use Rattle.report.proofs.lines.write_six.Tie as tie

@@ -2,7 +2,7 @@
 use mathlib.Core.List.{[], _∷_}
 use Rattle.report.specs.Decimal.{result}
 use Rattle.report.specs.Text.{space}
-use Rattle.report.proofs.Signs.{word-is}
+use Rattle.ticks.proofs.Words.{word-is}
 use Rattle.report.proofs.Writes.{wrote-then, room-rest}
 use borrow.Author.Needs.{needs}
 use Rattle.report.proofs.lines.write_time.Statement.{statement}
