@@ -1,46 +1,37 @@
--- In a table that ends with a record, a reader at the record finds it: the record fits.
-use mathlib.Core.Path.{_≡_, ap}
-use mathlib.Core.Bool.{Bool, true}
+-- In a table that ends with a record, a reader at the record finds it: the record fits. And what was found is one record, of one table.
+use mathlib.Core.Path.{_≡_, subst}
+use mathlib.Core.Bool.{not}
 use mathlib.Core.List.{List}
 use Prim.Native.Nat.{ℕ, _+_}
 use native.Mathlib.Nat.{le-refl}
+use lib.Dec.{T}
 use borrow.Author.Tests.{le-leb}
-use Rattle.image.specs.Records.{phaseFrom, synchronizerFrom, arcFrom}
-use Rattle.image.specs.Reader.{fitsOf, phaseOrEnd, synchronizerOrEnd, arcOrEnd, foundPhase, foundSynchronizer, foundArc}
+use mir.Val.{hasKey}
+use types.Run.{OneOf, miss}
+use denote.Enum.Declared.{tagOf}
+use Rattle.image.specs.Reader.{recordFrom, recordOrEnd, foundOf}
+use Rattle.image.specs.declared.reader.Table.{Table}
 use Rattle.image.specs.declared.records.Phase.{Phase}
 use Rattle.image.specs.declared.records.Synchronizer.{Synchronizer}
 use Rattle.image.specs.declared.records.Arc.{Arc}
-use Rattle.image.specs.declared.reader.FoundPhase.{FoundPhase}
-use Rattle.image.specs.declared.reader.FoundPhase.the-variants as phase
-use Rattle.image.specs.declared.reader.FoundSynchronizer.{FoundSynchronizer}
-use Rattle.image.specs.declared.reader.FoundSynchronizer.the-variants as synchronizer
-use Rattle.image.specs.declared.reader.FoundArc.{FoundArc}
-use Rattle.image.specs.declared.reader.FoundArc.the-variants as arc
+use Rattle.image.specs.declared.reader.Record.{Record}
+use Rattle.image.specs.declared.reader.Record.the-variants as found
+use Rattle.image.proofs.reader.Record.{the-type}
 
--- the record that was found, and zeros at the end
-abbrev pub phaseOr : FoundPhase → Phase
-phaseOr (phase.Record p) = p
-phaseOr phase.End = record { closing = 0; active = 0 }
+-- `place` is how the definition says where the record starts
+pub lone : (bytes : List ℕ) (table : Table) (size : ℕ) {at place : ℕ} → at ≡ place → foundOf bytes table at size (at + size) ≡ recordFrom bytes table place
+unfolding foundOf
+lone bytes table size {at} same = λ j. recordOrEnd (le-leb (at + size) (at + size) (le-refl (at + size)) j) (recordFrom bytes table (same j))
 
-abbrev pub synchronizerOr : FoundSynchronizer → Synchronizer
-synchronizerOr (synchronizer.Record s) = s
-synchronizerOr synchronizer.End = record { phase = 0; kind = 0; setup = 0; hold = 0; least = 0; greatest = 0 }
+pub one-phase : {p q : Phase} → found.Phase p ≡ found.Phase q → p ≡ q
+one-phase same = cc
 
-abbrev pub arcOr : FoundArc → Arc
-arcOr (arc.Record a) = a
-arcOr arc.End = record { from = 0; to = 0; least = 0; greatest = 0 }
+pub one-synchronizer : {s t : Synchronizer} → found.Synchronizer s ≡ found.Synchronizer t → s ≡ t
+one-synchronizer same = cc
 
-alone : (at size : ℕ) → fitsOf at size (at + size) ≡ true
-alone at size = le-leb (at + size) (at + size) (le-refl (at + size))
+pub one-arc : {a b : Arc} → found.Arc a ≡ found.Arc b → a ≡ b
+one-arc same = cc
 
-pub lone-phase : (bytes : List ℕ) (at : ℕ) → phaseOr (foundPhase bytes at (at + 8)) ≡ phaseFrom bytes at
-unfolding foundPhase
-lone-phase bytes at = ap (λ (b : Bool). phaseOr (phaseOrEnd b (phaseFrom bytes at))) (alone at 8)
-
-pub lone-synchronizer : (bytes : List ℕ) (at size : ℕ) → synchronizerOr (foundSynchronizer bytes at size (at + size)) ≡ synchronizerFrom bytes at
-unfolding foundSynchronizer
-lone-synchronizer bytes at size = ap (λ (b : Bool). synchronizerOr (synchronizerOrEnd b (synchronizerFrom bytes at))) (alone at size)
-
-pub lone-arc : (bytes : List ℕ) (at : ℕ) → arcOr (foundArc bytes at (at + 16)) ≡ arcFrom bytes at
-unfolding foundArc
-lone-arc bytes at = ap (λ (b : Bool). arcOr (arcOrEnd b (arcFrom bytes at))) (alone at 16)
+-- an arm of a `match` on what was found, whose variants have those numbers, is not reached where what was found has another
+pub never : (numbers : List ℕ) {r is : Record} → r ≡ is → T (not (hasKey numbers (tagOf the-type is))) → OneOf numbers (tagOf the-type r) → ⊥
+never numbers {is} same other reached = miss numbers (tagOf the-type is) other (subst (λ (x : Record). OneOf numbers (tagOf the-type x)) same reached)

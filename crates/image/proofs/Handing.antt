@@ -1,7 +1,7 @@
 -- A reader hands out the records of a table in order: at record i of n it finds record i and then stands at the next, and behind the last
 -- record it finds the end and stays. The idea: record i ends where record i + 1 starts, which is no later than the table's end where i is
 -- below n. And in a good image each table ends where the next one starts, the last where the image ends.
-use mathlib.Core.Path.{_≡_, ap, _∙_}
+use mathlib.Core.Path.{_≡_, refl, ap, _∙_}
 use mathlib.Core.Bool.{Bool, true, false}
 use mathlib.Core.List.{List}
 use Prim.Native.Nat.{ℕ, zero, suc, _+_, _≤_, _<_}
@@ -10,112 +10,69 @@ use native.Mathlib.Omega.{arith}
 use lib.ListN.{length}
 use borrow.Author.Tests.{le-leb, lt-leb}
 use denote.Ref.{RefT, now}
-use Rattle.image.specs.Records.{placeOf, phaseFrom, synchronizerFrom, arcFrom, phaseAt, synchronizerAt, arcAt}
-use Rattle.image.specs.Reader.{
-  fitsOf,
-  placeOr,
-  onwardOf,
-  phaseOrEnd,
-  synchronizerOrEnd,
-  arcOrEnd,
-  foundPhase,
-  foundSynchronizer,
-  foundArc,
-  readerAt,
-  nextPhase,
-  nextSynchronizer,
-  nextArc,
-}
+use Rattle.image.specs.Records.{placeOf, phaseAt, synchronizerAt, arcAt}
+use Rattle.image.specs.Reader.{fitsOf, placeOr, onwardOf, recordFrom, recordOrEnd, foundOf, readerAt, nextOf}
 use Rattle.image.specs.Valid.{Valid, imageIn}
 use Rattle.image.specs.declared.kind.Layout.{Layout}
-use Rattle.image.specs.declared.reader.FoundPhase.the-variants as phase
-use Rattle.image.specs.declared.reader.FoundSynchronizer.the-variants as synchronizer
-use Rattle.image.specs.declared.reader.FoundArc.the-variants as arc
+use Rattle.image.specs.declared.reader.Table.{Table}
+use Rattle.image.specs.declared.reader.Table.the-variants.{Phases, Synchronizers, Arcs}
+use Rattle.image.specs.declared.reader.Record.the-variants as found
 
--- a table of n records of that size
-module _ (table size : ℕ) where
-  behind : (i : ℕ) → placeOf table size i + size ≡ placeOf table size (suc i)
+-- n records of that size, from the byte `start` on
+module _ (start size : ℕ) where
+  behind : (i : ℕ) → placeOf start size i + size ≡ placeOf start size (suc i)
   behind i = omega (arith, mul-suc size i)
 
-  inside : (i n : ℕ) → i < n → fitsOf (placeOf table size i) size (placeOf table size n) ≡ true
+  inside : (i n : ℕ) → i < n → fitsOf (placeOf start size i) size (placeOf start size n) ≡ true
   inside i n h =
       let k : suc i ≤ n = omega arith in
-      le-leb (placeOf table size i + size) (placeOf table size n) (omega (arith, mul-suc size i, mul-le-mul-left size k))
+      le-leb (placeOf start size i + size) (placeOf start size n) (omega (arith, mul-suc size i, mul-le-mul-left size k))
 
-  outside : (n : ℕ) → zero < size → fitsOf (placeOf table size n) size (placeOf table size n) ≡ false
-  outside n h = lt-leb (placeOf table size n + size) (placeOf table size n) (omega arith)
+  outside : (n : ℕ) → zero < size → fitsOf (placeOf start size n) size (placeOf start size n) ≡ false
+  outside n h = lt-leb (placeOf start size n + size) (placeOf start size n) (omega arith)
 
-  moved : (i n : ℕ) → i < n → onwardOf (placeOf table size i) size (placeOf table size n) ≡ placeOf table size (suc i)
-  moved i n h = ap (λ (b : Bool). placeOr b (placeOf table size i + size) (placeOf table size i)) (inside i n h) ∙ behind i
+  moved : (i n : ℕ) → i < n → onwardOf (placeOf start size i) size (placeOf start size n) ≡ placeOf start size (suc i)
+  moved i n h = ap (λ (b : Bool). placeOr b (placeOf start size i + size) (placeOf start size i)) (inside i n h) ∙ behind i
 
-  stayed : (n : ℕ) → zero < size → onwardOf (placeOf table size n) size (placeOf table size n) ≡ placeOf table size n
-  stayed n h = ap (λ (b : Bool). placeOr b (placeOf table size n + size) (placeOf table size n)) (outside n h)
+  stayed : (n : ℕ) → zero < size → onwardOf (placeOf start size n) size (placeOf start size n) ≡ placeOf start size n
+  stayed n h = ap (λ (b : Bool). placeOr b (placeOf start size n + size) (placeOf start size n)) (outside n h)
 
-module _ (image : RefT (List ℕ)) (layout : Layout) where
-  abbrev phases : ℕ → ℕ
-  phases = placeOf (layout .phases) 8
-
-  abbrev synchronizers : ℕ → ℕ
-  synchronizers = placeOf (layout .synchronizers) (layout .«synchronizer_bytes»)
-
-  abbrev arcs : ℕ → ℕ
-  arcs = placeOf (layout .arcs) 16
-
-  pub phase-handed : (i n : ℕ) → i < n →
-      nextPhase (readerAt image (phases i)) (phases n)
-      ≡ record { image = image; at = phases (suc i); found = phase.Record (phaseAt (now image) layout i) }
-  unfolding foundPhase phaseAt
-  phase-handed i n h = λ j. record {
+-- handed out are the records of the table, whatever it is
+module _ (image : RefT (List ℕ)) (table : Table) (start size : ℕ) where
+  pub handed : (i n : ℕ) → i < n →
+      nextOf (readerAt image (placeOf start size i)) table size (placeOf start size n)
+      ≡ record { image = image; at = placeOf start size (suc i); found = recordFrom (now image) table (placeOf start size i) }
+  unfolding foundOf
+  handed i n h = λ j. record {
     image = image;
-    at = moved (layout .phases) 8 i n h j;
-    found = phaseOrEnd (inside (layout .phases) 8 i n h j) (phaseFrom (now image) (phases i));
+    at = moved start size i n h j;
+    found = recordOrEnd (inside start size i n h j) (recordFrom (now image) table (placeOf start size i));
   }
 
-  pub phases-ended : (n : ℕ) → nextPhase (readerAt image (phases n)) (phases n) ≡ record { image = image; at = phases n; found = phase.End }
-  unfolding foundPhase
-  phases-ended n = λ j. record {
+  pub ended : (n : ℕ) → zero < size →
+      nextOf (readerAt image (placeOf start size n)) table size (placeOf start size n)
+      ≡ record { image = image; at = placeOf start size n; found = found.End }
+  unfolding foundOf
+  ended n h = λ j. record {
     image = image;
-    at = stayed (layout .phases) 8 n (omega arith) j;
-    found = phaseOrEnd (outside (layout .phases) 8 n (omega arith) j) (phaseFrom (now image) (phases n));
+    at = stayed start size n h j;
+    found = recordOrEnd (outside start size n h j) (recordFrom (now image) table (placeOf start size n));
   }
 
-  pub synchronizer-handed : (i n : ℕ) → i < n →
-      nextSynchronizer (readerAt image (synchronizers i)) (layout .«synchronizer_bytes») (synchronizers n)
-      ≡ record { image = image; at = synchronizers (suc i); found = synchronizer.Record (synchronizerAt (now image) layout i) }
-  unfolding foundSynchronizer synchronizerAt
-  synchronizer-handed i n h = λ j. record {
-    image = image;
-    at = moved (layout .synchronizers) (layout .«synchronizer_bytes») i n h j;
-    found = synchronizerOrEnd (inside (layout .synchronizers) (layout .«synchronizer_bytes») i n h j) (synchronizerFrom (now image) (synchronizers i));
-  }
+-- and they are the records that `read` gives by their numbers
+module _ (bytes : List ℕ) (layout : Layout) (i : ℕ) where
+  pub phase-handed : recordFrom bytes Phases (placeOf (layout .phases) 8 i) ≡ found.Phase (phaseAt bytes layout i)
+  unfolding phaseAt
+  phase-handed = refl
 
-  pub synchronizers-ended : (n : ℕ) → zero < layout .«synchronizer_bytes» →
-      nextSynchronizer (readerAt image (synchronizers n)) (layout .«synchronizer_bytes») (synchronizers n)
-      ≡ record { image = image; at = synchronizers n; found = synchronizer.End }
-  unfolding foundSynchronizer
-  synchronizers-ended n h = λ j. record {
-    image = image;
-    at = stayed (layout .synchronizers) (layout .«synchronizer_bytes») n h j;
-    found = synchronizerOrEnd (outside (layout .synchronizers) (layout .«synchronizer_bytes») n h j) (synchronizerFrom (now image) (synchronizers n));
-  }
+  pub synchronizer-handed : recordFrom bytes Synchronizers (placeOf (layout .synchronizers) (layout .«synchronizer_bytes») i)
+      ≡ found.Synchronizer (synchronizerAt bytes layout i)
+  unfolding synchronizerAt
+  synchronizer-handed = refl
 
-  pub arc-handed : (i n : ℕ) → i < n →
-      nextArc (readerAt image (arcs i)) (arcs n)
-      ≡ record { image = image; at = arcs (suc i); found = arc.Record (arcAt (now image) layout i) }
-  unfolding foundArc arcAt
-  arc-handed i n h = λ j. record {
-    image = image;
-    at = moved (layout .arcs) 16 i n h j;
-    found = arcOrEnd (inside (layout .arcs) 16 i n h j) (arcFrom (now image) (arcs i));
-  }
-
-  pub arcs-ended : (n : ℕ) → nextArc (readerAt image (arcs n)) (arcs n) ≡ record { image = image; at = arcs n; found = arc.End }
-  unfolding foundArc
-  arcs-ended n = λ j. record {
-    image = image;
-    at = stayed (layout .arcs) 16 n (omega arith) j;
-    found = arcOrEnd (outside (layout .arcs) 16 n (omega arith) j) (arcFrom (now image) (arcs n));
-  }
+  pub arc-handed : recordFrom bytes Arcs (placeOf (layout .arcs) 16 i) ≡ found.Arc (arcAt bytes layout i)
+  unfolding arcAt
+  arc-handed = refl
 
 -- where the tables of a good image end
 module _ (bytes : List ℕ) (good : Valid bytes) where

@@ -1,4 +1,4 @@
--- What the walks of the reader's functions share, said once: what a reader owns gives what its image owns; what the calls of `onward` and of
+-- Steps of the walks of `Reader::next` and `first`, each by itself: what a reader owns gives what its image owns; what the calls of `onward` and of
 -- `Reader::new` ask and tell; and that the last two fields of a struct's machine value have their types together where each has its own.
 -- The idea: a reader is Copy, so what it owns is had twice, and of one copy the image's part is taken. Numbers own facts alone, which are made anew.
 use mathlib.Core.Path.{_≡_, refl}

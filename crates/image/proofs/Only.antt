@@ -4,12 +4,11 @@ use mathlib.Core.List.{List}
 use Prim.Native.Nat.{ℕ}
 use denote.Ref.{RefT}
 use Rattle.image.specs.Checks.{checkOf}
-use Rattle.image.specs.Reader.{readerAt, nextPhase, nextSynchronizer, nextArc}
+use Rattle.image.specs.Reader.{readerAt, nextOf}
 use Rattle.image.specs.declared.checks.Checked.{Checked}
+use Rattle.image.specs.declared.reader.Table.{Table}
 use Rattle.image.specs.declared.reader.Reader.{Reader}
-use Rattle.image.specs.declared.reader.NextPhase.{NextPhase}
-use Rattle.image.specs.declared.reader.NextSynchronizer.{NextSynchronizer}
-use Rattle.image.specs.declared.reader.NextArc.{NextArc}
+use Rattle.image.specs.declared.reader.Next.{Next}
 
 pub only {ℓ} : {A : Type ℓ} {x y meant : A} → x ≡ meant → y ≡ meant → x ≡ y
 only p q = p ∙ sym q
@@ -21,12 +20,5 @@ check-only bytes a b p q = only p q
 pub reader-only : (image : RefT (List ℕ)) (at : ℕ) (a b : Reader) → a ≡ readerAt image at → b ≡ readerAt image at → a ≡ b
 reader-only image at a b p q = only p q
 
-pub next-phase-only : (r : Reader) (end : ℕ) (a b : NextPhase) → a ≡ nextPhase r end → b ≡ nextPhase r end → a ≡ b
-next-phase-only r end a b p q = only p q
-
-pub next-synchronizer-only : (r : Reader) (size end : ℕ) (a b : NextSynchronizer) →
-    a ≡ nextSynchronizer r size end → b ≡ nextSynchronizer r size end → a ≡ b
-next-synchronizer-only r size end a b p q = only p q
-
-pub next-arc-only : (r : Reader) (end : ℕ) (a b : NextArc) → a ≡ nextArc r end → b ≡ nextArc r end → a ≡ b
-next-arc-only r end a b p q = only p q
+pub next-only : (r : Reader) (table : Table) (size end : ℕ) (a b : Next) → a ≡ nextOf r table size end → b ≡ nextOf r table size end → a ≡ b
+next-only r table size end a b p q = only p q

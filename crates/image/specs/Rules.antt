@@ -8,6 +8,8 @@ use Rattle.image.specs.Records.{phaseAt, synchronizerAt, arcAt}
 use Rattle.image.specs.declared.kind.Header.{Header}
 use Rattle.image.specs.declared.kind.Image.{Image}
 use Rattle.image.specs.declared.kind.Part.the-variants as part
+use Rattle.image.specs.declared.records.Phase.{Phase}
+use Rattle.image.specs.declared.records.Synchronizer.{Synchronizer}
 use Rattle.image.specs.declared.records.Arc.{Arc}
 use Rattle.image.specs.declared.rules.Rule.{Rule}
 use Rattle.image.specs.declared.rules.Rule.the-variants.{Phases, Synchronizers, Arcs, Order}
@@ -36,21 +38,21 @@ badLayout header length =
     || not (eqb length (offsetOf part.End k l m))
 
 -- 6: T or e above Tc, or e below the phase before, or last with e not Tc
-unfoldable pub badPhase : List ℕ → Image → ℕ → Bool
-badPhase bytes image i =
+abbrev pub phaseFails : Image → ℕ → Phase → Phase → Bool
+phaseFails image i phase earlier =
     let tc = image .cycle in
-    let phase = phaseAt bytes (image .layout) i in
-    let earlier = phaseAt bytes (image .layout) (i - 1) in
     ltb tc (phase .active)
     || ltb tc (phase .closing)
     || (ltb 0 i && ltb (phase .closing) (earlier .closing))
     || (eqb (i + 1) (image .phases) && not (eqb (phase .closing) tc))
 
+unfoldable pub badPhase : List ℕ → Image → ℕ → Bool
+badPhase bytes image i = phaseFails image i (phaseAt bytes (image .layout) i) (phaseAt bytes (image .layout) (i - 1))
+
 -- 7: phase not below k, kind above 1, S or H above Tc, least delay above greatest, or greatest above the limit
-unfoldable pub badSynchronizer : List ℕ → Image → ℕ → Bool
-badSynchronizer bytes image i =
+abbrev pub synchronizerFails : Image → Synchronizer → Bool
+synchronizerFails image s =
     let tc = image .cycle in
-    let s = synchronizerAt bytes (image .layout) i in
     leb (image .phases) (s .phase)
     || ltb 1 (s .kind)
     || ltb tc (s .setup)
@@ -58,15 +60,19 @@ badSynchronizer bytes image i =
     || ltb (s .greatest) (s .least)
     || ltb longestDelay (s .greatest)
 
+unfoldable pub badSynchronizer : List ℕ → Image → ℕ → Bool
+badSynchronizer bytes image i = synchronizerFails image (synchronizerAt bytes (image .layout) i)
+
 -- 8: an end not below l, least delay above greatest, or greatest above the limit
-unfoldable pub badArc : List ℕ → Image → ℕ → Bool
-badArc bytes image i =
-    let l = image .synchronizers in
-    let a = arcAt bytes (image .layout) i in
+abbrev pub arcFails : ℕ → Arc → Bool
+arcFails l a =
     leb l (a .from)
     || leb l (a .to)
     || ltb (a .greatest) (a .least)
     || ltb longestDelay (a .greatest)
+
+unfoldable pub badArc : List ℕ → Image → ℕ → Bool
+badArc bytes image i = arcFails (image .synchronizers) (arcAt bytes (image .layout) i)
 
 -- one arc strictly before another, by "to", then by "from"
 abbrev pub precedes : Arc → Arc → Bool

@@ -32,7 +32,7 @@ fn cut(bytes: &[u8], at: usize) -> u32
 {
     if at < bytes.len() {
         from_little(
-            bytes[at],
+            byte(bytes, at),
             byte(bytes, at + 1),
             byte(bytes, at + 2),
             byte(bytes, at + 3),

@@ -45,10 +45,12 @@ fn check_records(bytes: &[u8], image: Image) -> Checked
     Checked::Good(image)
 }
 
+const HEADER: usize = Image::HEADER_BYTES as usize;
+
 pub fn check(bytes: &[u8]) -> Checked
     ensures { λ r. ⌜ r ≡ checkOf (now (bytes .entry)) ⌝ }
 {
-    if bytes.len() < Image::HEADER_BYTES as usize {
+    if bytes.len() < HEADER {
         return Checked::Refused(1, 0);
     }
     let header = Header::read(bytes);

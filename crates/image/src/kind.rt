@@ -41,6 +41,15 @@ pub enum Part {
     End,
 }
 
+// The sizes below, in the type of an offset.
+const HEADER: u64 = Image::HEADER_BYTES as u64;
+
+const PHASE: u64 = Image::PHASE_BYTES as u64;
+
+const SYNCHRONIZER: u64 = Image::SYNCHRONIZER_BYTES as u64;
+
+const ARC: u64 = Image::ARC_BYTES as u64;
+
 impl Image {
     pub const VERSION: u32 = 1;
 
@@ -69,14 +78,13 @@ impl Image {
     pub fn offset(part: Part, phases: u32, synchronizers: u32, arcs: u32) -> u64
         ensures { λ r. ⌜ r ≡ offsetOf part phases synchronizers arcs ⌝ }
     {
-        let first = Image::HEADER_BYTES as u64;
-        let second = first + (Image::PHASE_BYTES as u64) * (phases as u64);
-        let third = second + (Image::SYNCHRONIZER_BYTES as u64) * (synchronizers as u64);
+        let second = HEADER + PHASE * (phases as u64);
+        let third = second + SYNCHRONIZER * (synchronizers as u64);
         match part {
-            Part::Phases => first,
+            Part::Phases => HEADER,
             Part::Synchronizers => second,
             Part::Arcs => third,
-            Part::End => third + (Image::ARC_BYTES as u64) * (arcs as u64),
+            Part::End => third + ARC * (arcs as u64),
         }
     }
 }

@@ -1,10 +1,9 @@
 // A reader holds the caller's image and a place in it, and hands out the records of a table in order. A table ends at a byte that the
-// caller names, and its records are those that end no later. Any image, any place and any end will do: past the end of the image every
-// field reads 0.
+// caller names, and its records are those that end no later. Any image, any place, any size and any end will do: past the end of the image
+// every field reads 0.
 // The functions over the reader are thin: each takes it apart and calls functions on the slice and the numbers, which hold all branches.
 ghost use mathlib.Core.Path.{_≡_};
-ghost use Rattle.image.specs.Reader.{fitsOf, onwardOf, foundPhase, foundSynchronizer, foundArc, readerAt, nextPhase, nextSynchronizer, nextArc};
-use crate::kind::Image;
+ghost use Rattle.image.specs.Reader.{fitsOf, onwardOf, foundOf, readerAt, nextOf};
 use crate::records::Arc;
 use crate::records::Phase;
 use crate::records::Synchronizer;
@@ -14,45 +13,28 @@ pub struct Reader<'a> {
     pub at: usize,
 }
 
-// What stands at a place: a record, or the end of the table.
-pub enum FoundPhase {
-    Record(Phase),
-    End,
+// The tables of an image.
+pub enum Table {
+    Phases,
+    Synchronizers,
+    Arcs,
 }
 
-pub enum FoundSynchronizer {
-    Record(Synchronizer),
-    End,
-}
-
-pub enum FoundArc {
-    Record(Arc),
+// What stands at a place: a record of the table that is read, or its end.
+pub enum Record {
+    Phase(Phase),
+    Synchronizer(Synchronizer),
+    Arc(Arc),
     End,
 }
 
 // The reader moved on, and what it found. An enum cannot hold a reference, so the answer stands beside the reader's fields;
 // `Reader::new(next.image, next.at)` reads on.
-pub struct NextPhase<'a> {
+pub struct Next<'a> {
     pub image: &'a [u8],
     pub at: usize,
-    pub found: FoundPhase,
+    pub found: Record,
 }
-
-pub struct NextSynchronizer<'a> {
-    pub image: &'a [u8],
-    pub at: usize,
-    pub found: FoundSynchronizer,
-}
-
-pub struct NextArc<'a> {
-    pub image: &'a [u8],
-    pub at: usize,
-    pub found: FoundArc,
-}
-
-pub(crate) const PHASE: usize = Image::PHASE_BYTES as usize;
-
-pub(crate) const ARC: usize = Image::ARC_BYTES as usize;
 
 // Does a record of that size end no later than the table?
 pub(crate) fn fits(at: usize, size: usize, end: usize) -> bool
@@ -68,33 +50,17 @@ pub(crate) fn onward(at: usize, size: usize, end: usize) -> usize
     if fits(at, size, end) { at + size } else { at }
 }
 
-fn found_phase(bytes: &[u8], at: usize, end: usize) -> FoundPhase
-    ensures { λ r. ⌜ r ≡ foundPhase (now (bytes .entry)) at end ⌝ }
-{
-    if fits(at, PHASE, end) {
-        FoundPhase::Record(Phase::at(bytes, at))
-    } else {
-        FoundPhase::End
-    }
-}
-
-fn found_synchronizer(bytes: &[u8], at: usize, size: usize, end: usize) -> FoundSynchronizer
-    ensures { λ r. ⌜ r ≡ foundSynchronizer (now (bytes .entry)) at size end ⌝ }
+fn found(bytes: &[u8], table: Table, at: usize, size: usize, end: usize) -> Record
+    ensures { λ r. ⌜ r ≡ foundOf (now (bytes .entry)) table at size end ⌝ }
 {
     if fits(at, size, end) {
-        FoundSynchronizer::Record(Synchronizer::at(bytes, at))
+        match table {
+            Table::Phases => Record::Phase(Phase::at(bytes, at)),
+            Table::Synchronizers => Record::Synchronizer(Synchronizer::at(bytes, at)),
+            Table::Arcs => Record::Arc(Arc::at(bytes, at)),
+        }
     } else {
-        FoundSynchronizer::End
-    }
-}
-
-fn found_arc(bytes: &[u8], at: usize, end: usize) -> FoundArc
-    ensures { λ r. ⌜ r ≡ foundArc (now (bytes .entry)) at end ⌝ }
-{
-    if fits(at, ARC, end) {
-        FoundArc::Record(Arc::at(bytes, at))
-    } else {
-        FoundArc::End
+        Record::End
     }
 }
 
@@ -112,58 +78,21 @@ impl<'a> Reader<'a> {
         self.at
     }
 
-    pub fn next_phase(self, end: usize) -> NextPhase<'a>
-        ensures { λ r. ⌜ r ≡ nextPhase (self .entry) end ⌝ }
+    // The next record of a table whose records have that size; for synchronizers it is the layout's.
+    pub fn next(self, table: Table, size: usize, end: usize) -> Next<'a>
+        ensures { λ r. ⌜ r ≡ nextOf (self .entry) table size end ⌝ }
     {
         let image = self.image;
         let place = self.at;
-        let found = found_phase(image, place, end);
-        let at = onward(place, PHASE, end);
-        NextPhase { image, at, found }
-    }
-
-    // The layout says how many bytes a synchronizer's record has.
-    pub fn next_synchronizer(self, size: usize, end: usize) -> NextSynchronizer<'a>
-        ensures { λ r. ⌜ r ≡ nextSynchronizer (self .entry) size end ⌝ }
-    {
-        let image = self.image;
-        let place = self.at;
-        let found = found_synchronizer(image, place, size, end);
+        let found = found(image, table, place, size, end);
         let at = onward(place, size, end);
-        NextSynchronizer { image, at, found }
-    }
-
-    pub fn next_arc(self, end: usize) -> NextArc<'a>
-        ensures { λ r. ⌜ r ≡ nextArc (self .entry) end ⌝ }
-    {
-        let image = self.image;
-        let place = self.at;
-        let found = found_arc(image, place, end);
-        let at = onward(place, ARC, end);
-        NextArc { image, at, found }
+        Next { image, at, found }
     }
 }
 
 // For callers that hold no reader: one is made at the place, and hands out its first record.
-pub(crate) fn first_phase(bytes: &[u8], at: usize, end: usize) -> FoundPhase
-    ensures { λ found. ⌜ found ≡ foundPhase (now (bytes .entry)) at end ⌝ }
+pub(crate) fn first(bytes: &[u8], table: Table, at: usize, size: usize, end: usize) -> Record
+    ensures { λ r. ⌜ r ≡ foundOf (now (bytes .entry)) table at size end ⌝ }
 {
-    Reader::new(bytes, at).next_phase(end).found
-}
-
-pub(crate) fn first_synchronizer(
-    bytes: &[u8],
-    at: usize,
-    size: usize,
-    end: usize,
-) -> FoundSynchronizer
-    ensures { λ found. ⌜ found ≡ foundSynchronizer (now (bytes .entry)) at size end ⌝ }
-{
-    Reader::new(bytes, at).next_synchronizer(size, end).found
-}
-
-pub(crate) fn first_arc(bytes: &[u8], at: usize, end: usize) -> FoundArc
-    ensures { λ found. ⌜ found ≡ foundArc (now (bytes .entry)) at end ⌝ }
-{
-    Reader::new(bytes, at).next_arc(end).found
+    Reader::new(bytes, at).next(table, size, end).found
 }

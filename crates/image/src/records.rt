@@ -9,14 +9,9 @@ use crate::bytes::whole;
 use crate::bytes::word;
 use crate::kind::Image;
 use crate::kind::Layout;
-use crate::reader::ARC;
-use crate::reader::FoundArc;
-use crate::reader::FoundPhase;
-use crate::reader::FoundSynchronizer;
-use crate::reader::PHASE;
-use crate::reader::first_arc;
-use crate::reader::first_phase;
-use crate::reader::first_synchronizer;
+use crate::reader::Record;
+use crate::reader::Table;
+use crate::reader::first;
 use crate::reader::fits;
 
 // When a phase closes, and how long it is active before that.
@@ -41,8 +36,12 @@ pub struct Arc {
     pub greatest: u32,
 }
 
-// The bytes that the six fields of a synchronizer take. The layout may give its record more.
+// The bytes that the fields of a record take. The layout may give a synchronizer's record more.
+const PHASE: usize = Image::PHASE_BYTES as usize;
+
 const SYNCHRONIZER: usize = 24;
+
+const ARC: usize = Image::ARC_BYTES as usize;
 
 // The byte at which a record starts. Numbers of 32 bits leave room for the record's own bytes behind it.
 pub(crate) fn place(table: u32, size: u32, i: u32) -> usize
@@ -73,9 +72,10 @@ impl Phase {
                 active: whole(bytes, at + 4),
             }
         } else {
+            let s = Synchronizer::cut(bytes, at);
             Phase {
-                closing: word(bytes, at),
-                active: field(bytes, at, 4),
+                closing: s.phase,
+                active: s.kind,
             }
         }
     }
@@ -84,9 +84,9 @@ impl Phase {
         ensures { λ r. ⌜ r ≡ phaseAt (now (bytes .entry)) layout i ⌝ }
     {
         let at = place(layout.phases, Image::PHASE_BYTES, i);
-        match first_phase(bytes, at, at + (Image::PHASE_BYTES as usize)) {
-            FoundPhase::Record(phase) => phase,
-            FoundPhase::End => Phase {
+        match first(bytes, Table::Phases, at, PHASE, at + PHASE) {
+            Record::Phase(phase) => phase,
+            _ => Phase {
                 closing: 0,
                 active: 0,
             },
@@ -110,31 +110,40 @@ impl Synchronizer {
         }
     }
 
+    // The synchronizer at any place: field by field. Phases and arcs that the end of the image cuts off are read by it too, as the first two
+    // words and the first four. So it stands apart in the compiled code, and what is left of the others is small enough to vanish into their
+    // callers.
+    fn cut(bytes: &[u8], at: usize) -> Synchronizer
+        ensures { λ r. ⌜ r ≡ synchronizerFrom (now (bytes .entry)) at ⌝ }
+    {
+        Synchronizer {
+            phase: word(bytes, at),
+            kind: field(bytes, at, 4),
+            setup: field(bytes, at, 8),
+            hold: field(bytes, at, 12),
+            least: field(bytes, at, 16),
+            greatest: field(bytes, at, 20),
+        }
+    }
+
     pub(crate) fn at(bytes: &[u8], at: usize) -> Synchronizer
         ensures { λ r. ⌜ r ≡ synchronizerFrom (now (bytes .entry)) at ⌝ }
     {
         if fits(at, SYNCHRONIZER, bytes.len()) {
             Synchronizer::whole(bytes, at)
         } else {
-            Synchronizer {
-                phase: word(bytes, at),
-                kind: field(bytes, at, 4),
-                setup: field(bytes, at, 8),
-                hold: field(bytes, at, 12),
-                least: field(bytes, at, 16),
-                greatest: field(bytes, at, 20),
-            }
+            Synchronizer::cut(bytes, at)
         }
     }
 
     pub fn read(bytes: &[u8], layout: Layout, i: u32) -> Synchronizer
         ensures { λ r. ⌜ r ≡ synchronizerAt (now (bytes .entry)) layout i ⌝ }
     {
-        let size = layout.synchronizer_bytes;
-        let at = place(layout.synchronizers, size, i);
-        match first_synchronizer(bytes, at, size as usize, at + (size as usize)) {
-            FoundSynchronizer::Record(synchronizer) => synchronizer,
-            FoundSynchronizer::End => Synchronizer {
+        let at = place(layout.synchronizers, layout.synchronizer_bytes, i);
+        let size = layout.synchronizer_bytes as usize;
+        match first(bytes, Table::Synchronizers, at, size, at + size) {
+            Record::Synchronizer(synchronizer) => synchronizer,
+            _ => Synchronizer {
                 phase: 0,
                 kind: 0,
                 setup: 0,
@@ -166,11 +175,12 @@ impl Arc {
         if fits(at, ARC, bytes.len()) {
             Arc::whole(bytes, at)
         } else {
+            let s = Synchronizer::cut(bytes, at);
             Arc {
-                from: word(bytes, at),
-                to: field(bytes, at, 4),
-                least: field(bytes, at, 8),
-                greatest: field(bytes, at, 12),
+                from: s.phase,
+                to: s.kind,
+                least: s.setup,
+                greatest: s.hold,
             }
         }
     }
@@ -179,9 +189,9 @@ impl Arc {
         ensures { λ r. ⌜ r ≡ arcAt (now (bytes .entry)) layout i ⌝ }
     {
         let at = place(layout.arcs, Image::ARC_BYTES, i);
-        match first_arc(bytes, at, at + (Image::ARC_BYTES as usize)) {
-            FoundArc::Record(arc) => arc,
-            FoundArc::End => Arc {
+        match first(bytes, Table::Arcs, at, ARC, at + ARC) {
+            Record::Arc(arc) => arc,
+            _ => Arc {
                 from: 0,
                 to: 0,
                 least: 0,

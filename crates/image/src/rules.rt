@@ -1,12 +1,10 @@
 // Document 01's rules 3 to 9, as tests. Each gives what the definition of the same name in specs/Rules.antt gives.
 // The tests of one rule are joined by `|` and `&`, which ask all of them: the code is then one expression, as the rule is.
 ghost use mathlib.Core.Path.{_≡_};
-ghost use mathlib.Core.Bool.{true, _||_};
+ghost use mathlib.Core.Bool.{true};
 ghost use Prim.Native.Nat.{_-_};
-ghost use lib.Dec.{ltb, leb};
-ghost use Rattle.image.specs.Kind.{longestDelay};
 ghost use Rattle.image.specs.declared.rules.Rule.the-variants.{Synchronizers, Arcs, Order};
-ghost use Rattle.image.specs.Rules.{badCycle, badCounts, badLayout, badPhase, badSynchronizer, badArc, badOrder, breaksOf, lowestOf};
+ghost use Rattle.image.specs.Rules.{badCycle, badCounts, badLayout, badPhase, synchronizerFails, badSynchronizer, arcFails, badArc, badOrder, breaksOf, lowestOf};
 use crate::kind::Header;
 use crate::kind::Image;
 use crate::kind::Part;
@@ -60,9 +58,8 @@ fn before(i: u32) -> u32
 fn bad_phase(bytes: &[u8], image: Image, i: u32) -> bool
     ensures { λ r. ⌜ r ≡ badPhase (now (bytes .entry)) image i ⌝ }
 {
-    let layout = image.layout;
-    let phase = Phase::read(bytes, layout, i);
-    let earlier = Phase::read(bytes, layout, before(i));
+    let phase = Phase::read(bytes, image.layout, i);
+    let earlier = Phase::read(bytes, image.layout, before(i));
     (image.cycle < phase.active)
         | (image.cycle < phase.closing)
         | ((0 < i) & (phase.closing < earlier.closing))
@@ -71,7 +68,7 @@ fn bad_phase(bytes: &[u8], image: Image, i: u32) -> bool
 
 // Rule 7 of a synchronizer that has been read.
 fn bad_window(s: Synchronizer, image: Image) -> bool
-    ensures { λ r. ⌜ r ≡ (leb (image .phases) (s .phase) || ltb 1 (s .kind) || ltb (image .cycle) (s .setup) || ltb (image .cycle) (s .hold) || ltb (s .greatest) (s .least) || ltb longestDelay (s .greatest)) ⌝ }
+    ensures { λ r. ⌜ r ≡ synchronizerFails image s ⌝ }
 {
     (image.phases <= s.phase)
         | (1 < s.kind)
@@ -89,7 +86,7 @@ fn bad_synchronizer(bytes: &[u8], image: Image, i: u32) -> bool
 
 // Rule 8 of an arc that has been read, where there are l synchronizers.
 fn bad_fields(a: Arc, l: u32) -> bool
-    ensures { λ r. ⌜ r ≡ (leb l (a .from) || leb l (a .to) || ltb (a .greatest) (a .least) || ltb longestDelay (a .greatest)) ⌝ }
+    ensures { λ r. ⌜ r ≡ arcFails l a ⌝ }
 {
     (l <= a.from) | (l <= a.to) | (a.greatest < a.least) | (Image::LONGEST_DELAY < a.greatest)
 }
@@ -103,9 +100,8 @@ fn bad_arc(bytes: &[u8], image: Image, i: u32) -> bool
 fn bad_order(bytes: &[u8], image: Image, i: u32) -> bool
     ensures { λ r. ⌜ r ≡ badOrder (now (bytes .entry)) image i ⌝ }
 {
-    let layout = image.layout;
-    let a = Arc::read(bytes, layout, before(i));
-    let b = Arc::read(bytes, layout, i);
+    let a = Arc::read(bytes, image.layout, before(i));
+    let b = Arc::read(bytes, image.layout, i);
     (0 < i) & !((a.to < b.to) | ((a.to == b.to) & (a.from < b.from)))
 }
 

@@ -5,15 +5,12 @@ use Rattle.image.proofs.Words.{byte-past}
 use Rattle.image.proofs.bytes.byte.Statement.{statement}
 use Rattle.image.proofs.bytes.byte.Tie as tie
 
--- src/bytes.rt:8:27
 shared-slice-read-result : tie.Need-shared-slice-read-result
 shared-slice-read-result c = search needs
 
--- src/bytes.rt:5:1
 returns : tie.Need-returns
 returns c = search needs
 
--- src/bytes.rt:5:1
 returns-2 : tie.Need-returns-2
 returns-2 c = let a = c .before .args in sym (byte-past (a .bytes .now) (a .at) (c .if1 .left))
 

@@ -30,7 +30,7 @@ from-little-requires c κs = search needs
 
 returns : tie.Need-returns
 unfolding wordAt
-returns c = cc
+returns c = c .from-little .ensures
 
 pub whole-spec : {M : Type 1} → statement M
 whole-spec =

@@ -5,9 +5,6 @@ use borrow.Author.Needs.{needs}
 use Rattle.image.proofs.checks.check.Statement.{statement}
 use Rattle.image.proofs.checks.check.Tie as tie
 
-cast-if1 : tie.Need-cast-if1
-cast-if1 c = search needs
-
 returns : tie.Need-returns
 unfolding checkOf
 returns c = rw (lt-ltb _ _ (c .if1 .taken))
@@ -54,7 +51,6 @@ pub check-spec : {M : Type 1} → statement M
 check-spec =
     tie.close
     (tie.spec
-    cast-if1
     returns
     read-requires
     returns-2

@@ -25,7 +25,15 @@ whole-requires-4 : tie.Need-whole-requires-4
 whole-requires-4 c κs = search needs
 
 returns : tie.Need-returns
-returns c = cc
+returns c =
+    let third = c .before in
+    let second = third .before in
+    λ j. record {
+      from = second .before .whole .ensures j;
+      to = second .whole2 .ensures j;
+      least = third .whole3 .ensures j;
+      greatest = c .whole4 .ensures j;
+    }
 
 pub whole-spec : {M : Type 1} → statement M
 whole-spec =

@@ -1,4 +1,5 @@
--- `Phase::at` reads the fields one by one, whole where the record lies within the image.
+-- `Phase::at` reads the record whole where it lies within the image, and field by field elsewhere.
+use Prim.Native.Nat.{_+_, _≤_}
 use native.Mathlib.Omega.{arith}
 use lib.ListN.{length}
 use borrow.Author.Needs.{needs}
@@ -9,26 +10,26 @@ use Rattle.image.proofs.records.Phase.at.Tie as tie
 fits-requires : tie.Need-fits-requires
 fits-requires c κs = search needs
 
+within : (c : tie.Then1) → (let a = c .before .before .before .args in a .at + 8 ≤ length (a .bytes .now))
+within c = let a = c .before .before .before .args in fits-within (a .at) 8 (length (a .bytes .now)) (c .before .fits2 .ensures) (c .if1 .taken)
+
 whole-requires : tie.Need-whole-requires
-whole-requires c κs = omega (arith, fits-within (c .before .before .before .args .at) 8 (length (c .before .before .before .args .bytes .now)) (c .before .fits2 .ensures) (c .if1 .taken))
+whole-requires c κs = omega (arith, within c)
 
 add-whole : tie.Need-add-whole
-add-whole c = omega (arith, fits-within (c .before .before .before .before .args .at) 8 (length (c .before .before .before .before .args .bytes .now)) (c .before .before .fits2 .ensures) (c .before .if1 .taken))
+add-whole c = omega (arith, within (c .before))
 
 whole-requires-2 : tie.Need-whole-requires-2
-whole-requires-2 c κs = omega (arith, fits-within (c .before .before .before .before .args .at) 8 (length (c .before .before .before .before .args .bytes .now)) (c .before .before .fits2 .ensures) (c .before .if1 .taken))
+whole-requires-2 c κs = omega (arith, within (c .before))
 
-word-requires : tie.Need-word-requires
-word-requires c κs = search needs
-
-field-requires : tie.Need-field-requires
-field-requires c κs = search needs
+cut-requires : tie.Need-cut-requires
+cut-requires c κs = search needs
 
 returns : tie.Need-returns
-returns c = cc
+returns c = λ j. record { closing = c .before .whole .ensures j; active = c .whole2 .ensures j }
 
 returns-2 : tie.Need-returns-2
-returns-2 c = cc
+returns-2 c = let s = c .cut .ensures in λ j. record { closing = s j .phase; active = s j .kind }
 
 pub at-spec : {M : Type 1} → statement M
 at-spec =
@@ -38,7 +39,6 @@ at-spec =
     whole-requires
     add-whole
     whole-requires-2
-    word-requires
-    field-requires
+    cut-requires
     returns
     returns-2)

@@ -11,41 +11,14 @@ fits-requires c κs = search needs
 whole-requires : tie.Need-whole-requires
 whole-requires c κs = fits-within (c .before .before .before .args .at) 24 (length (c .before .before .before .args .bytes .now)) (c .before .fits2 .ensures) (c .if1 .taken)
 
-word-requires : tie.Need-word-requires
-word-requires c κs = search needs
-
-field-requires : tie.Need-field-requires
-field-requires c κs = search needs
-
-field-requires-2 : tie.Need-field-requires-2
-field-requires-2 c κs = search needs
-
-field-requires-3 : tie.Need-field-requires-3
-field-requires-3 c κs = search needs
-
-field-requires-4 : tie.Need-field-requires-4
-field-requires-4 c κs = search needs
-
-field-requires-5 : tie.Need-field-requires-5
-field-requires-5 c κs = search needs
+cut-requires : tie.Need-cut-requires
+cut-requires c κs = search needs
 
 returns : tie.Need-returns
 returns c = search needs
 
 returns-2 : tie.Need-returns-2
-returns-2 c = cc
+returns-2 c = search needs
 
 pub at-spec : {M : Type 1} → statement M
-at-spec =
-    tie.close
-    (tie.spec
-    fits-requires
-    whole-requires
-    word-requires
-    field-requires
-    field-requires-2
-    field-requires-3
-    field-requires-4
-    field-requires-5
-    returns
-    returns-2)
+at-spec = tie.close (tie.spec fits-requires whole-requires cut-requires returns returns-2)

@@ -37,7 +37,19 @@ whole-requires-6 : tie.Need-whole-requires-6
 whole-requires-6 c κs = search needs
 
 returns : tie.Need-returns
-returns c = cc
+returns c =
+    let fifth = c .before in
+    let fourth = fifth .before in
+    let third = fourth .before in
+    let second = third .before in
+    λ j. record {
+      phase = second .before .whole .ensures j;
+      kind = second .whole2 .ensures j;
+      setup = third .whole3 .ensures j;
+      hold = fourth .whole4 .ensures j;
+      least = fifth .whole5 .ensures j;
+      greatest = c .whole6 .ensures j;
+    }
 
 pub whole-spec : {M : Type 1} → statement M
 whole-spec =
