@@ -1,6 +1,7 @@
 //! Holds every call of the linked library against the independent program, answers and buffers alike.
 //!
 //!     compare [SEED [PERCENT]]    the whole comparison, with this share of the circuits by chance
+//!     compare SEED PERCENT K N    every N-th image of each part, from the K-th on, so that N processes do the whole together
 //!     compare image HEX           all calls on one image
 //!
 //! It stops at the first disagreement, prints it with the image, and ends with status 1.
@@ -12,10 +13,9 @@ use compare::known;
 use compare::linked::{Library, TimingAnswer};
 use std::collections::BTreeMap;
 use std::fmt::Debug;
-use std::sync::atomic::{AtomicUsize, Ordering};
-use std::sync::Mutex;
 use std::time::Instant;
 
+/// The seed of a run that is given none, here and in the script `run`.
 const SEED: u64 = 0x6E65_656C_756B_7564;
 
 /// Every kind of answer must be seen as often as this in a whole run.
@@ -87,18 +87,6 @@ impl Comparison {
             longest_loop: 0,
             greatest_number: 0,
         }
-    }
-
-    /// Counts what another comparison saw as well.
-    fn join(&mut self, other: Comparison) {
-        self.library.calls += other.library.calls;
-        self.images += other.images;
-        for (kind, count) in other.seen {
-            *self.seen.entry(kind).or_default() += count;
-        }
-        self.longest_path = self.longest_path.max(other.longest_path);
-        self.longest_loop = self.longest_loop.max(other.longest_loop);
-        self.greatest_number = self.greatest_number.max(other.greatest_number);
     }
 
     fn see(&mut self, call: &'static str, refusal: u32, otherwise: &str) {
@@ -334,51 +322,13 @@ fn judge_loop_text(image: &[u8], text: &[u8]) -> Result<(), String> {
 
 // ---- The parts of the comparison. ----
 
-/// A part: its name, and what it does. Parts need nothing of each other.
-type Part = (String, Box<dyn Fn(&mut Comparison) -> Result<(), String> + Sync>);
-
-/// What one part came to: the line that is printed of it, or the disagreement.
-fn run_part(comparison: &mut Comparison, seed: u64, (name, work): &Part) -> Result<String, String> {
+/// Runs one part, and prints what it came to.
+fn part(comparison: &mut Comparison, name: &str, work: impl FnOnce(&mut Comparison) -> Result<(), String>) -> Result<(), String> {
     let (images, calls, since) = (comparison.images, comparison.library.calls, Instant::now());
-    comparison.random = Random::new(seed_of(seed, name, 0));
     work(comparison)?;
     let (images, calls) = (comparison.images - images, comparison.library.calls - calls);
-    Ok(format!("{name}: {images} images, {calls} calls, {:.1} s", since.elapsed().as_secs_f64()))
-}
-
-/// Runs the parts, as many at a time as there are processors; after a disagreement no further one is begun. The lines come in the parts'
-/// order, up to the disagreement.
-fn run_parts(parts: &[Part], seed: u64) -> Result<Comparison, String> {
-    let next = AtomicUsize::new(0);
-    let said = Mutex::new(BTreeMap::new());
-    let worker = || {
-        let mut comparison = Comparison::new();
-        loop {
-            let number = next.fetch_add(1, Ordering::Relaxed);
-            match parts.get(number) {
-                Some(part) => {
-                    let line = run_part(&mut comparison, seed, part);
-                    if line.is_err() {
-                        next.store(parts.len(), Ordering::Relaxed);
-                    }
-                    said.lock().unwrap().insert(number, line);
-                }
-                None => return comparison,
-            }
-        }
-    };
-    let many = std::thread::available_parallelism().map_or(1, |many| many.get());
-    let mut all = Comparison::new();
-    std::thread::scope(|scope| {
-        let workers: Vec<_> = (0..many).map(|_| scope.spawn(worker)).collect();
-        for worker in workers {
-            all.join(worker.join().expect("a part does not panic"));
-        }
-    });
-    for line in said.into_inner().unwrap().into_values() {
-        println!("{}", line?);
-    }
-    Ok(all)
+    println!("{name}: {images} images, {calls} calls, {:.1} s", since.elapsed().as_secs_f64());
+    Ok(())
 }
 
 /// What is printed at a disagreement.
@@ -389,29 +339,43 @@ fn told<T>(outcome: Result<T, String>, kind: &str, seed: u64, images: &[&[u8]]) 
     })
 }
 
+/// Which images of each part are compared here: every `of`-th, from number `first` on.
+#[derive(Clone, Copy)]
+struct Turn {
+    first: u64,
+    of: u64,
+}
+
+impl Turn {
+    fn below(self, count: u64) -> impl Iterator<Item = u64> {
+        (self.first..count).step_by(self.of as usize)
+    }
+
+    fn pick<T>(self, all: impl IntoIterator<Item = T>) -> impl Iterator<Item = T> {
+        all.into_iter().skip(self.first as usize).step_by(self.of as usize)
+    }
+}
+
 /// The seed of one image: from the run's seed, the kind and the number within it.
 fn seed_of(seed: u64, kind: &str, number: u64) -> u64 {
     let kind = kind.bytes().fold(0, |sum: u64, byte| sum.wrapping_mul(0x100_0000_01B3) ^ u64::from(byte));
     Random::new(seed ^ Random::new(kind).draw()).draw() ^ Random::new(number).draw()
 }
 
-fn part(parts: &mut Vec<Part>, name: &str, work: impl Fn(&mut Comparison) -> Result<(), String> + Sync + 'static) {
-    parts.push((name.to_string(), Box::new(work)));
-}
+fn compare(seed: u64, percent: u64, turn: Turn) -> Result<Comparison, String> {
+    let share = |count: u64| (count * percent / 100).max(1);
+    let mut comparison = Comparison::new();
+    let c = &mut comparison;
 
-fn compare(seed: u64, percent: u64) -> Result<Comparison, String> {
-    let share = move |count: u64| (count * percent / 100).max(1);
-    let mut parts: Vec<Part> = Vec::new();
-
-    part(&mut parts, "known circuits", move |c| {
-        for (name, image) in known::all() {
+    part(c, "known circuits", |c| {
+        for (name, image) in turn.pick(known::all()) {
             told(c.image(&image), name, 0, &[&image])?;
         }
         Ok(())
-    });
+    })?;
 
-    part(&mut parts, "at the limits", move |c| {
-        for (name, image) in images::at_limits() {
+    part(c, "at the limits", |c| {
+        for (name, image) in turn.pick(images::at_limits()) {
             told(c.image(&image), name, 0, &[&image])?;
             // The path that takes every arc of a ring comes back to one of these.
             if let Ok(Numbers { synchronizers, .. }) = independent::check(&image) {
@@ -421,13 +385,13 @@ fn compare(seed: u64, percent: u64) -> Result<Comparison, String> {
             }
         }
         Ok(())
-    });
+    })?;
 
     for (size, count) in SIZES {
         for (name, maker) in MAKERS {
             let kind = format!("{name}, {size:?}").to_lowercase();
-            part(&mut parts, &kind.clone(), move |c| {
-                for number in 0..share(count) {
+            part(c, &kind, |c| {
+                for number in turn.below(share(count)) {
                     let seed = seed_of(seed, &kind, number);
                     c.random = Random::new(seed);
                     let (plan, expect) = maker(&mut c.random, size);
@@ -440,7 +404,7 @@ fn compare(seed: u64, percent: u64) -> Result<Comparison, String> {
                     told(outcome, &kind, seed, &[&image])?;
                 }
                 Ok(())
-            });
+            })?;
         }
     }
 
@@ -452,19 +416,18 @@ fn compare(seed: u64, percent: u64) -> Result<Comparison, String> {
         whole.push(maker(&mut random, Size::Tiny).0.image());
     }
     for (kind, damage) in [("one byte damaged", images::damaged as fn(&[u8]) -> Vec<Vec<u8>>), ("cut or longer", images::cut_or_longer)] {
-        let whole = whole.clone();
-        part(&mut parts, kind, move |c| {
-            for (number, image) in whole.iter().flat_map(|image| damage(image)).enumerate() {
+        part(c, kind, |c| {
+            for (number, image) in turn.pick(whole.iter().flat_map(|image| damage(image)).enumerate()) {
                 let seed = seed_of(seed, kind, number as u64);
                 c.random = Random::new(seed);
                 told(c.image(&image), kind, seed, &[&image])?;
             }
             Ok(())
-        });
+        })?;
     }
 
-    part(&mut parts, "words edited", move |c| {
-        for number in 0..share(4_000) {
+    part(c, "words edited", |c| {
+        for number in turn.below(share(4_000)) {
             let seed = seed_of(seed, "words edited", number);
             c.random = Random::new(seed);
             let maker = c.random.pick(&MAKERS).1;
@@ -479,20 +442,20 @@ fn compare(seed: u64, percent: u64) -> Result<Comparison, String> {
             told(c.image(&image), "words edited", seed, &[&image])?;
         }
         Ok(())
-    });
+    })?;
 
-    part(&mut parts, "bytes by chance", move |c| {
-        for number in 0..share(3_000) {
+    part(c, "bytes by chance", |c| {
+        for number in turn.below(share(3_000)) {
             let seed = seed_of(seed, "bytes by chance", number);
             c.random = Random::new(seed);
             let image = images::bytes(&mut c.random);
             told(c.image(&image), "bytes by chance", seed, &[&image])?;
         }
         Ok(())
-    });
+    })?;
 
-    part(&mut parts, "narrowing", move |c| {
-        for number in 0..share(3_000) {
+    part(c, "narrowing", |c| {
+        for number in turn.below(share(3_000)) {
             let seed = seed_of(seed, "narrowing", number);
             c.random = Random::new(seed);
             let makers: [Maker; 4] = [images::loose, images::tight, images::forward, images::chain];
@@ -508,9 +471,9 @@ fn compare(seed: u64, percent: u64) -> Result<Comparison, String> {
             told(c.narrowing(&first, &second), "narrowing", seed, &[&first.image(), &second.image()])?;
         }
         Ok(())
-    });
+    })?;
 
-    run_parts(&parts, seed)
+    Ok(comparison)
 }
 
 /// What circuits must have shown.
@@ -596,17 +559,19 @@ fn run(arguments: &[&str]) -> Option<Result<String, String>> {
         let outcome = told(comparison.image(&image), "given", 0, &[&image]);
         return Some(outcome.map(|_| format!("compare: {} calls agreed on 1 image", comparison.library.calls)));
     }
-    let (seed, percent) = match arguments {
-        [] => (SEED, 100),
-        [seed] => (number(seed)?, 100),
-        [seed, percent] => (number(seed)?, number(percent)?),
+    let whole = Turn { first: 0, of: 1 };
+    let (seed, percent, turn) = match arguments {
+        [] => (SEED, 100, whole),
+        [seed] => (number(seed)?, 100, whole),
+        [seed, percent] => (number(seed)?, number(percent)?, whole),
+        [seed, percent, first, of] => (number(seed)?, number(percent)?, Turn { first: number(first)?, of: number(of)?.max(1) }),
         _ => return None,
     };
     println!("seed {seed:#x}, {percent} percent of the circuits by chance");
     println!("independent program: {} numbers and texts of P1 to P10 are as document 01 prints them", known::test());
-    let outcome = compare(seed, percent).and_then(|comparison| {
-        // A part of the circuits need not show everything.
-        table(&comparison, if percent < 100 { 0 } else { LEAST_SEEN })?;
+    let outcome = compare(seed, percent, turn).and_then(|comparison| {
+        // A part of the circuits need not show everything; of several processes each must see its share.
+        table(&comparison, if percent < 100 { 0 } else { (LEAST_SEEN + turn.of - 1) / turn.of })?;
         Ok(format!("compare: {} calls agreed on {} images", comparison.library.calls, comparison.images))
     });
     Some(outcome.map_err(|what| format!("{what}\nrun's seed: {seed:#x}")))
@@ -625,7 +590,7 @@ fn main() {
             1
         }
         None => {
-            eprintln!("usage: compare [SEED [PERCENT]] | compare image HEX");
+            eprintln!("usage: compare [SEED [PERCENT [K N]]] | compare image HEX");
             2
         }
     };
