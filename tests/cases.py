@@ -7,9 +7,9 @@
 Each case states its answer by hand. The checker below was written from document 01
 alone. Both must agree before anything is stored.
 """
-import pathlib
 import struct
-import sys
+
+from stored import ROOT, store
 
 GOOD = "good"
 LIMIT = 1_000_000_000  # of the cycle and of every delay
@@ -524,19 +524,10 @@ def main():
         lines.append(line(name, expected).encode("ascii"))
     assert len({name for name, _, _ in CASES}) == len(CASES), "two cases have one name"
 
-    folder = pathlib.Path(__file__).resolve().parent.parent / "crates" / "cases"
+    folder = ROOT / "crates" / "cases"
     wanted = {folder / "stdin": b"".join(frames), folder / "stdout": b"".join(lines)}
     assert len(wanted[folder / "stdin"]) < 1_000_000
-    if sys.argv[1:] == ["--check"]:
-        stale = [p.name for p, text in wanted.items() if not p.exists() or p.read_bytes() != text]
-        for name in stale:
-            print("crates/cases/%s differs from what tests/cases.py makes" % name)
-        sys.exit(1 if stale else 0)
-    if sys.argv[1:]:
-        sys.exit("usage: cases.py [--check]")
-    for path, text in wanted.items():
-        path.write_bytes(text)
-    print("%d cases" % len(CASES))
+    store(wanted, "%d cases" % len(CASES))
 
 
 if __name__ == "__main__":

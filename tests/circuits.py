@@ -14,6 +14,7 @@ import struct
 import sys
 
 from cases import CASES, GOOD, judge, known_circuits
+from stored import ROOT, store
 
 MARK = 2**63 - 1
 
@@ -153,24 +154,16 @@ def main():
         for name in sys.argv[1:]:
             sys.stdout.write(report(pathlib.Path(name).read_bytes()))
         return
-    root = pathlib.Path(__file__).resolve().parent.parent
     wanted = {}
     for name, image in circuits().items():
         text = report(image)
         assert PRINTED.get(name, text) == text, (name, text)
-        wanted[root / "circuits" / (name + ".image")] = image
-        wanted[root / "circuits" / (name + ".report")] = text.encode("ascii")
-    program = root / "crates" / "neelukudam"
-    wanted[program / "stdin"] = wanted[root / "circuits" / "p1.image"]
-    wanted[program / "stdout"] = wanted[root / "circuits" / "p1.report"]
-    if sys.argv[1:]:
-        stale = [p for p, text in wanted.items() if not p.exists() or p.read_bytes() != text]
-        for path in stale:
-            print("%s differs from what tests/circuits.py makes" % path.relative_to(root))
-        sys.exit(1 if stale else 0)
-    for path, text in wanted.items():
-        path.write_bytes(text)
-    print("%d circuits" % len(circuits()))
+        wanted[ROOT / "circuits" / (name + ".image")] = image
+        wanted[ROOT / "circuits" / (name + ".report")] = text.encode("ascii")
+    program = ROOT / "crates" / "neelukudam"
+    wanted[program / "stdin"] = wanted[ROOT / "circuits" / "p1.image"]
+    wanted[program / "stdout"] = wanted[ROOT / "circuits" / "p1.report"]
+    store(wanted, "%d circuits" % len(circuits()))
 
 
 if __name__ == "__main__":

@@ -9,13 +9,12 @@ document 01. Which growing ring is shown is left open there, so every circuit th
 does not count: what is found is held to the definition of a ring, and to being the only one that grows. The makers know of most circuits
 whether they grow, and that is tested too.
 """
-import pathlib
 import struct
-import sys
 
 from cases import BASE, FAULTS, GOOD, LIMIT, build, judge
 from circuits import circuits as known_circuits
 from circuits import flow, missed, read, ring, row, shift, six, solve
+from stored import ROOT, store
 
 # ---- What the calls give: document 01, "What the calls give" and "Numbers of refusal". ----
 
@@ -546,19 +545,10 @@ def refusals():
 def main():
     for kind in (known, small, chains, rings, two_rings, broken_rings, self_arcs, woven_kinds, dense, by_luck, extremes, ties, full, refusals):
         kind()
-    folder = pathlib.Path(__file__).resolve().parent.parent / "crates" / "timing_cases"
+    folder = ROOT / "crates" / "timing_cases"
     wanted = {folder / "stdin": b"".join(f for _, f, _ in FRAMES), folder / "stdout": b"".join(t for _, _, t in FRAMES)}
     assert sum(len(text) for text in wanted.values()) < 900_000
-    if sys.argv[1:] == ["--check"]:
-        stale = [p.name for p, text in wanted.items() if not p.exists() or p.read_bytes() != text]
-        for name in stale:
-            print("crates/timing_cases/%s differs from what tests/timing_cases.py makes" % name)
-        sys.exit(1 if stale else 0)
-    if sys.argv[1:]:
-        sys.exit("usage: timing_cases.py [--check]")
-    for path, text in wanted.items():
-        path.write_bytes(text)
-    print("%d frames" % len(FRAMES))
+    store(wanted, "%d frames" % len(FRAMES))
 
 
 if __name__ == "__main__":
