@@ -1,5 +1,4 @@
--- Updates in place rise from the launches and stay below all that fits, and n of them below round n. Where nothing is left to update they are
--- the least departures. A pass that gives every node at least what the departures before it lead to is at least a round.
+-- Updates in place rise from the launches and stay below all that fits. Where nothing is left to update they are the least departures. A pass that gives every node at least what the departures before it lead to is at least a round.
 use mathlib.Core.Path.{sym}
 use Prim.Native.Nat.{ℕ, suc, _≤_}
 use native.Mathlib.Decide.{ℕ-discrete}
@@ -21,31 +20,25 @@ module _ (s : Side) (f : Flow) (good : Good f) where
     update-below : Bounded late f E (next s f E) → Bounded late f F (next s f E)
     update-below h j l = elim (ℕ-discrete j i) [ yes q ↦ rw (q) (≤ℤ-eq (u .new)) | no q ↦ rw (u .rest j l q) (h j l) ]
 
-  pub updated-rises : {n : ℕ} {E : ℕ → ℤ} → Updated s f n E → Bounded late f E (next s f E)
+  pub updated-rises : {E : ℕ → ℤ} → Updated s f E → Bounded late f E (next s f E)
   updated-rises (launched {E} e) i l = rw (e i l) (launch-next s f E i)
-  updated-rises (updated {n} {E} {F} i h u) j l =
+  updated-rises (updated {E} {F} i h u) j l =
       ≤ℤ-trans (update-below i E F u (updated-rises h) j l)
       (next-mono s f good E F (update-rises i E F u (updated-rises h)) j l)
 
-  pub updated-launch : {n : ℕ} {E : ℕ → ℤ} → Updated s f n E → Bounded late f (f .launch) E
+  pub updated-launch : {E : ℕ → ℤ} → Updated s f E → Bounded late f (f .launch) E
   updated-launch (launched e) i l = ≤ℤ-eq (sym (e i l))
-  updated-launch (updated {n} {E} {F} i h u) j l =
+  updated-launch (updated {E} {F} i h u) j l =
       ≤ℤ-trans (updated-launch h j l) (update-rises i E F u (updated-rises h) j l)
 
-  pub updated-fits : (D : ℕ → ℤ) → Fits s f D → {n : ℕ} {E : ℕ → ℤ} → Updated s f n E → Bounded late f E D
+  pub updated-fits : (D : ℕ → ℤ) → Fits s f D → {E : ℕ → ℤ} → Updated s f E → Bounded late f E D
   updated-fits D fits (launched e) i l = rw (e i l) (fits-launch s f D fits i l)
-  updated-fits D fits (updated {n} {E} {F} i h u) j l =
+  updated-fits D fits (updated {E} {F} i h u) j l =
       ≤ℤ-trans (update-below i E F u (updated-rises h) j l)
       (rw (fits j l) (next-mono s f good E D (updated-fits D fits h) j l))
 
-  pub updated-round : {n : ℕ} {E : ℕ → ℤ} → Updated s f n E → Bounded late f E (round s f n)
-  unfolding round
-  updated-round (launched e) i l = ≤ℤ-eq (e i l)
-  updated-round (updated {n} {E} {F} i h u) j l =
-      ≤ℤ-trans (update-below i E F u (updated-rises h) j l) (next-mono s f good E (round s f n) (updated-round h) j l)
-
   -- nothing is left to update
-  pub updated-least : {n : ℕ} {E : ℕ → ℤ} → Updated s f n E → Fits s f E → Least s f E
+  pub updated-least : {E : ℕ → ℤ} → Updated s f E → Fits s f E → Least s f E
   updated-least h fits = record { fits = fits; least = λ D d. updated-fits D d h }
 
   -- passes

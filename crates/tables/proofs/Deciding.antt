@@ -1,15 +1,17 @@
 -- Which arc decides, found from the front, and what a node is raised to by what it is: a latch that an arc enters, one that none enters, or no
 -- latch.
-use mathlib.Core.Path.{_≡_, refl, sym, _∙_}
+use mathlib.Core.Path.{_≡_, refl, sym, ap, _∙_}
 use mathlib.Core.Bool.{Bool, true, false, cond}
 use mathlib.Core.List.{List}
 use Prim.Native.Nat.{ℕ, _+_, _-_, _<_, _≤_, max}
 use native.Mathlib.Omega.{arith}
+use lib.Dec.{ltb}
 use lib.ListN.{getD, set}
-use borrow.Author.Tests.{eq-eqb, ne-eqb}
+use lib.Seq.{set-getD}
+use borrow.Author.Tests.{eq-eqb, ne-eqb, ltb-true, ltb-false}
 use Rattle.flow.specs.Flow.{Side, late, early}
 use Rattle.tables.specs.Net.{Arcs, Net, timesOf, brought, better, unseen, degree, arrivalN}
-use Rattle.tables.specs.Raise.{raised, Decides, Tried, stays, rises}
+use Rattle.tables.specs.Raise.{raised, Decides, Lifted, Tried, stays, rises}
 use Rattle.tables.proofs.Best.{best-none, best-more}
 
 first-better : (s : Side) (b : ℕ) → b < 9223372036854775808 → better s (unseen s) b ≡ b
@@ -74,3 +76,20 @@ module _ (s : Side) (n : Net) (i : ℕ) (departs parents : List ℕ) where
       (raised s n (timesOf departs) i ≡ getD departs i 0) × (departs' ≡ departs) × (parents' ≡ parents)
   tried-stays (stays e) q = (e, refl, refl)
   tried-stays (rises a up d) q = let z : _≡_ {A = ℕ} 0 1 = cc in let k : ⊥ = omega arith in absurd k
+
+-- raising in place: nothing to do, or the later of arrival and departure is stored
+module _ (s : Side) (n : Net) (i : ℕ) (before : List ℕ) where
+  pub lifted-none : raised s n (timesOf before) i ≡ getD before i 0 → Lifted s n i before false before
+  lifted-none e = record {
+    stored = sym (ap (set before i) e ∙ set-getD before i 0);
+    rises = λ q. let z : _≡_ {A = ℕ} 0 1 = cc in let k : ⊥ = omega arith in absurd k;
+    stays = λ q. e;
+  }
+
+  pub lifted-max : (t : ℕ) → t ≡ arrivalN s n (timesOf before) i → raised s n (timesOf before) i ≡ max (arrivalN s n (timesOf before) i) (getD before i 0) →
+      Lifted s n i before (ltb (getD before i 0) t) (set before i (max t (getD before i 0)))
+  lifted-max t e r = record {
+    stored = rw (e, r);
+    rises = λ q. let h = ltb-true (getD before i 0) t q in rw r (omega arith);
+    stays = λ q. let h = ltb-false (getD before i 0) t q in rw r (omega arith);
+  }

@@ -2,14 +2,14 @@
 pub mod Best
 pub mod Models
 pub mod Filled
+pub mod Flags
 pub mod Nearer
 pub mod Trails
-pub mod Linking
-pub mod Pending
+pub mod Orders
 pub mod Raising
 pub mod Stamping
 pub mod Deciding
 pub mod Passes
-pub mod Endless
+pub mod Rooting
 pub mod Climbing
 pub mod Sweeps

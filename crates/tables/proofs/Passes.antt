@@ -1,215 +1,130 @@
--- A pass, one node after the other. A node that stays can be raised no more; one that was raised is at its arrival, and only nodes that its arcs
--- enter can have become able to rise, and these are listed.
-use mathlib.Core.Path.{_≡_, refl, sym, _∙_}
-use mathlib.Core.Bool.{Bool, true, false, cond}
+-- A pass, one node after the other: each is raised to its arrival, if that is later, and what holds of the nodes tried so far holds of one more.
+use mathlib.Core.Path.{_≡_, refl, ap, _∙_}
+use mathlib.Core.Bool.{Bool, false, _||_}
 use mathlib.Core.List.{List}
-use mathlib.Core.Logic.{_⊎_, inl, inr}
-use Prim.Native.Nat.{ℕ, zero, suc, _+_, _-_, _*_, _<_, _≤_, max}
+use Prim.Native.Nat.{ℕ, suc, _+_, _-_, _<_, _≤_}
 use native.Mathlib.Omega.{arith}
-use native.Mathlib.Decide.{decLt, ℕ-discrete}
-use lib.Dec.{eqb}
+use native.Mathlib.Decide.{ℕ-discrete}
 use lib.ListN.{length, getD, set, length-set}
-use lib.Seq.{getD-set-same, getD-set-other}
+use lib.Seq.{getD-set-same, getD-set-other, set-getD}
 use Rattle.flow.specs.Flow.{Side}
-use Rattle.flow.proofs.Below.{some-or-all}
-use Rattle.tables.specs.Net.{Net, timesOf, best, degree, arrivalN, Shaped, Ranged}
-use Rattle.tables.specs.Raise.{raised, Raise, raise, Decides, Modest}
-use Rattle.tables.specs.Parents.{Parented}
-use Rattle.tables.specs.Listing.{Listed, Follows, Enlisted, Onward}
-use Rattle.tables.specs.Passing.{Course, Waits, From, Passing}
-use Rattle.tables.proofs.Raising.{raised-mono, raise-rises, risen-ranged}
+use Rattle.tables.specs.Net.{Net, timesOf, Ranged}
+use Rattle.tables.specs.Raise.{raised, Raise, raise, Lifted, Decides, Room, Sweepable}
+use Rattle.tables.specs.Parents.{Course}
+use Rattle.tables.specs.Listing.{Order}
+use Rattle.tables.specs.Passing.{Same, Still, Swept, Passing}
+use Rattle.tables.proofs.Raising.{raised-mono, raise-rises, raised-still, room-raise}
+use Rattle.tables.proofs.Flags.{or-first, or-second}
 use Rattle.tables.proofs.Stamping.{stamped, parented-more}
 
--- what a node is raised to reads its own departure and those of the sources of the arcs into it
-module _ (s : Side) (n : Net) (D E : ℕ → ℕ) (i : ℕ) (rises : n .first i ≤ n .first (i + 1))
-    (same : (a : ℕ) → n .first i ≤ a → a < n .first (i + 1) → D (n .arcs .source a) ≡ E (n .arcs .source a)) where
-  best-here : (k : ℕ) → n .first i + k ≤ n .first (i + 1) → best s (n .arcs) D (n .first i) k ≡ best s (n .arcs) E (n .first i) k
-  unfolding best
-  best-here zero h = refl
-  best-here (suc k) h = rw (best-here k (omega arith), same (n .first i + k) (omega arith) (omega arith))
+-- in a pass there is room for all that is left of it
+pub sweep-room : {s : Side} {n : Net} {l : ℕ} {D node : ℕ → ℕ} {x : ℕ} {departs : List ℕ} → Room l l D → Swept s n l D node x departs → x ≤ l → Room l (l - x) (timesOf departs)
+sweep-room {l = l} {x = x} h p k = let e : l - x + x ≡ l = omega arith in p .room (l - x) (rw e h)
 
-  raised-here : D i ≡ E i → raised s n D i ≡ raised s n E i
-  unfolding raised
-  raised-here own = rw (best-here (degree n i) (omega (arith, rises)), own)
-
-  -- raised to its arrival it can be raised no more
-  raised-twice : E i ≡ raised s n D i → raised s n E i ≡ E i
-  unfolding raised
-  raised-twice new = rw (← best-here (degree n i) (omega (arith, rises)), new) (go (n .latch i) (eqb (degree n i) 0))
-    where
-      go : (b z : Bool) →
-          cond b (cond z (cond b (cond z (D i) (max (arrivalN s n D i) (D i))) (D i)) (max (arrivalN s n D i) (cond b (cond z (D i) (max (arrivalN s n D i) (D i))) (D i)))) (cond b (cond z (D i) (max (arrivalN s n D i) (D i))) (D i))
-          ≡ cond b (cond z (D i) (max (arrivalN s n D i) (D i))) (D i)
-      go false z = refl
-      go true true = refl
-      go true false = omega arith
-
--- l passes over l nodes are few enough
-pub budget : (number l x : ℕ) → number ≤ l → l ≤ 512 → x < 512 → (number - 1) * 512 + x ≤ 262144
-budget number l x h k r = omega arith
-
--- an arc into j from i, or none
-source-or : (n : Net) (i j : ℕ) → ((a : ℕ) × (n .first j ≤ a) × (a < n .first (j + 1)) × (n .arcs .source a ≡ i))
-    ⊎ ((a : ℕ) → n .first j ≤ a → a < n .first (j + 1) → n .arcs .source a ≡ i → ⊥)
-source-or n i j = elim (some-or-all (λ a. (n .first j ≤ a) × (n .arcs .source a ≡ i)) (λ a. n .first j ≤ a → n .arcs .source a ≡ i → ⊥) (n .first (j + 1))
-    (λ a l. elim (decLt a (n .first j)) [
-      | yes k ↦ inr (λ h e. omega arith)
-      | no k ↦ elim (ℕ-discrete (n .arcs .source a) i) [ yes e ↦ inl (omega arith, e) | no d ↦ inr (λ h e. d e) ]
-    ])) [
-      | inl h ↦ inl (h .0, h .2 .0, h .1, h .2 .1)
-      | inr h ↦ inr (λ a k l e. h a l k e)
-    ]
-
-module _ (s : Side) (n : Net) (l m : ℕ) (shaped : Shaped n l m) (modest : Modest n l m) (number b : ℕ) (D todo : ℕ → ℕ) (count : ℕ) where
-  -- at the start of a pass
-  pub passing-none : (departs parents marks next : List ℕ) → length departs ≡ 512 → length parents ≡ 512 → ((j : ℕ) → j < l → getD departs j 0 ≡ D j) →
-      Course s n l (timesOf departs) (timesOf parents) b → Enlisted l number marks next 0 → Waits s n l (timesOf departs) todo count →
-      Passing s n l number b D todo count 0 departs parents marks next 0 l
-  passing-none departs parents marks next e f same c en w = record {
-    long = (e, f);
-    course = let z : b + 0 ≡ b = omega arith in rw z c;
-    later = λ j h. omega (arith, same j h);
+module _ (s : Side) (n : Net) (l : ℕ) (t : Sweepable n l) where
+  pub sweep-none : (node : ℕ → ℕ) (departs : List ℕ) → length departs ≡ 512 → Swept s n l (timesOf departs) node 0 departs
+  sweep-none node departs e = record {
+    long = e;
+    onward = λ launch h. h;
+    later = λ j h. omega arith;
     tried = λ z k. let o : ⊥ = omega arith in absurd o;
-    enlisted = en;
-    waits = λ j h. elim (w .all j h) [ inl q ↦ inl q | inr o ↦ inr (inl (o .0, omega arith, o .1, o .2)) ];
-    rose = λ k. let o : ⊥ = omega arith in absurd o;
-    none = λ k. refl;
+    room = λ b h. let z : b + 0 ≡ b = omega arith in rw z at h;
   }
 
-  module _ (x : ℕ) (departs parents marks next : List ℕ) (listed last : ℕ) (here : todo x < l) (more : x < count)
-      (p : Passing s n l number b D todo count x departs parents marks next listed last) where
-    -- the node stays
-    pub passing-stays : raised s n (timesOf departs) (todo x) ≡ getD departs (todo x) 0 →
-        Passing s n l number b D todo count (x + 1) departs parents marks next listed last
-    passing-stays e = record {
-      long = p .long;
-      course = record {
-        raises = p .course .raises;
-        few = omega (arith, p .course .few);
-        risen = p .course .risen;
-        stamps = p .course .stamps;
-        parented = p .course .parented;
-      };
-      later = p .later;
+  module _ (D node : ℕ → ℕ) (x : ℕ) (departs : List ℕ) (here : node x < l) (ranged : Ranged l (timesOf departs))
+      (p : Swept s n l D node x departs) where
+    abbrev i : ℕ
+    i = node x
+
+    abbrev after : List ℕ
+    after = set departs i (raised s n (timesOf departs) i)
+
+    new : getD after i 0 ≡ raised s n (timesOf departs) i
+    new = getD-set-same departs i _ 0 (omega (arith, here, t .shaped .nodes, p .long))
+
+    other : (j : ℕ) → (j ≡ i → ⊥) → getD after j 0 ≡ getD departs j 0
+    other j d = getD-set-other departs i j _ 0 d
+
+    pub step : Raise s n l i (timesOf departs) (timesOf after)
+    step = record { here = here; new = new; rest = λ j h d. other j d }
+
+    grows : (j : ℕ) → j < l → getD departs j 0 ≤ getD after j 0
+    grows = raise-rises s n l (t .arcs) (t .shaped) i (timesOf departs) (timesOf after) step
+
+    pub sweep-more : Swept s n l D node (x + 1) after
+    sweep-more = record {
+      long = length-set departs i _ ∙ p .long;
+      onward = λ launch h. raise {D = timesOf departs} {E = timesOf after} i (p .onward launch h) ranged step;
+      later = λ j h. omega (arith, p .later j h, grows j h);
       tried = λ z k. elim (ℕ-discrete z x) [
-        | yes q ↦ rw q (omega (arith, e, raised-mono s n l m shaped D (timesOf departs) (p .later) (todo x) here))
-        | no q ↦ p .tried z (omega arith)
-      ];
-      enlisted = p .enlisted;
-      waits = λ j h. elim (p .waits j h) [
-        | inl q ↦ inl q
-        | inr (inl o) ↦ elim (ℕ-discrete (o .0) x) [
-          | yes q ↦ inl (let t : todo x ≡ j = rw q at (o .3) in rw t at e)
-          | no q ↦ inr (inl (o .0, omega (arith, o .1), o .2, o .3))
+        | yes q ↦ rw (q, new) (raised-mono s n l (t .arcs) (t .shaped) D (timesOf departs) (p .later) i here)
+        | no q ↦ elim (ℕ-discrete (node z) i) [
+          | yes o ↦ (let u = rw o at (p .tried z (omega arith)) in rw o (omega (arith, u, grows i here)))
+          | no o ↦ rw (other (node z) o) (p .tried z (omega arith))
         ]
-        | inr (inr o) ↦ inr (inr o)
       ];
+      room = λ b h.
+          let e : b + (x + 1) ≡ suc b + x = omega arith in
+          room-raise s n l t b step (p .room (suc b) (rw e at h));
+    }
+
+    -- raised in place; `changed` says whether any was raised
+    pub swept-on : (changed : Bool) → (changed ≡ false → Same l D (timesOf departs)) → {b : Bool} {next : List ℕ} → Lifted s n i departs b next →
+        Swept s n l D node (x + 1) next × ((changed || b) ≡ false → Same l D (timesOf next))
+    swept-on changed same {b} h = rw (h .stored) (
+      sweep-more,
+      λ e j k. let q : after ≡ departs = ap (set departs i) (h .stays (or-second changed b e)) ∙ set-getD departs i 0 in rw q (same (or-first changed b e) j k),
+    )
+
+    -- a node that stays
+    pub sweep-stays : raised s n (timesOf departs) i ≡ getD departs i 0 → Swept s n l D node (x + 1) departs
+    sweep-stays e = let q : after ≡ departs = ap (set departs i) e ∙ set-getD departs i 0 in rw q at sweep-more
+
+  -- a pass over all nodes that raised none
+  pub sweep-still : (D node : ℕ → ℕ) (departs : List ℕ) → Order l node → Swept s n l D node l departs → Same l D (timesOf departs) → Still s n l (timesOf departs)
+  sweep-still D node departs order p same = raised-still s n l (t .arcs) (t .shaped) D (timesOf departs) same (λ j h.
+      let o = order .all j h in rw (o .2) at (p .tried (o .0) (o .1)))
+
+  -- passes that note parents
+  pub passing-none : (node : ℕ → ℕ) (departs parents : List ℕ) → length departs ≡ 512 → length parents ≡ 512 →
+      Passing s n l (timesOf departs) (timesOf parents) node 0 departs parents l
+  passing-none node departs parents e f = record {
+    swept = sweep-none node departs e;
+    long = f;
+    course = λ base c. c;
+    rose = λ k. let o : ⊥ = omega arith in absurd o;
+    same = λ k j h. refl;
+  }
+
+  module _ (D P node : ℕ → ℕ) (x : ℕ) (departs parents : List ℕ) (last : ℕ) (here : node x < l) (ranged : Ranged l (timesOf departs))
+      (p : Passing s n l D P node x departs parents last) where
+    pub passing-stays : raised s n (timesOf departs) (node x) ≡ getD departs (node x) 0 → Passing s n l D P node (x + 1) departs parents last
+    passing-stays e = record {
+      swept = sweep-stays D node x departs here ranged (p .swept) e;
+      long = p .long;
+      course = p .course;
       rose = p .rose;
-      none = p .none;
+      same = p .same;
     }
 
-    -- the node is raised
-    module _ (target heads links : ℕ → ℕ) (onward : Onward (n .arcs .source) (n .first) l m target heads links) (a : ℕ)
-        (up : getD departs (todo x) 0 < raised s n (timesOf departs) (todo x))
-        (decides : Decides s (n .arcs) (timesOf departs) (n .first (todo x)) (n .first (todo x + 1)) a) (few : b + x ≤ 262144)
-        (marks' next' : List ℕ) (listed' : ℕ) (en : Enlisted l number marks' next' listed')
-        (all : (c : ℕ) → Follows links (heads (todo x)) c → Listed (timesOf next') listed' (target c))
-        (kept : (j : ℕ) → Listed (timesOf next) listed j → Listed (timesOf next') listed' j) where
-      abbrev i : ℕ
-      i = todo x
+    module _ (a : ℕ) (up : getD departs (node x) 0 < raised s n (timesOf departs) (node x))
+        (d : Decides s (n .arcs) (timesOf departs) (n .first (node x)) (n .first (node x + 1)) a) where
+      abbrev lifted : List ℕ
+      lifted = set departs (node x) (raised s n (timesOf departs) (node x))
 
-      abbrev after : List ℕ
-      after = set departs i (raised s n (timesOf departs) i)
-
-      small : i < 512
-      small = omega (arith, here, shaped .nodes)
-
-      new : getD after i 0 ≡ raised s n (timesOf departs) i
-      new = getD-set-same departs i _ 0 (omega (arith, small, p .long .0))
-
-      other : (j : ℕ) → (j ≡ i → ⊥) → getD after j 0 ≡ getD departs j 0
-      other j d = getD-set-other departs i j _ 0 d
-
-      step : Raise s n l i (timesOf departs) (timesOf after)
-      step = record { here = here; new = new; rest = λ j h d. other j d }
-
-      grows : (j : ℕ) → j < l → getD departs j 0 ≤ getD after j 0
-      grows = raise-rises s n l m shaped i (timesOf departs) (timesOf after) step
-
-      ranged : Ranged l (timesOf departs)
-      ranged = risen-ranged s n l m shaped modest (p .course .risen) (omega (arith, p .course .few))
-
-      room : i < length parents
-      room = omega (arith, small, p .long .1)
-
-      parents-on : Parented n l (timesOf after) (timesOf (set parents i a))
-          (stamped s n l m shaped i (timesOf departs) (timesOf after) (p .course .stamps) (p .course .raises) parents a step up (decides .above) (decides .below) (decides .brings) ranged room)
-          (suc (p .course .raises))
-      parents-on = parented-more s n l m shaped i (timesOf departs) (timesOf after) (p .course .stamps) (p .course .raises) parents a step up
-          (decides .above) (decides .below) (decides .brings) ranged room (p .course .parented)
-
-      waiting : (j : ℕ) → j < l →
-          (raised s n (timesOf after) j ≡ getD after j 0) ⊎ (From todo (x + 1) count j ⊎ Listed (timesOf next') listed' j)
-      waiting j h = elim (source-or n i j) [
-        | inl c ↦ (
-            let k : c .0 < m = omega (arith, c .2, shaped .ends j h) in
-            inr (inr (rw (onward .enters j (c .0) h (c .1) (c .2)) at (all (c .0) (rw (c .3) at (onward .linked .each (c .0) k))))))
-        | inr d ↦ (
-            let same : (c : ℕ) → n .first j ≤ c → c < n .first (j + 1) → getD departs (n .arcs .source c) 0 ≡ getD after (n .arcs .source c) 0 =
-            λ c low high. sym (other (n .arcs .source c) (d c low high)) in
-            elim (ℕ-discrete j i) [
-              | yes q ↦ inl (rw q (raised-twice s n (timesOf departs) (timesOf after) i (shaped .rises i here) (rw q at same) new))
-              | no q ↦ (
-                  let e = raised-here s n (timesOf departs) (timesOf after) j (shaped .rises j h) same (sym (other j q)) in
-                  elim (p .waits j h) [
-                    | inl o ↦ inl (sym e ∙ o ∙ sym (other j q))
-                    | inr (inl o) ↦ inr (inl (o .0, elim (ℕ-discrete (o .0) x) [ yes z ↦ absurd (q (sym (rw z at (o .3)))) | no z ↦ omega (arith, o .1) ], o .2, o .3))
-                    | inr (inr o) ↦ inr (inr (kept j o))
-                  ])
-            ])
-      ]
-
-      pub passing-rises : Passing s n l number b D todo count (x + 1) after (set parents i a) marks' next' listed' i
-      passing-rises = record {
-        long = (length-set departs i _ ∙ p .long .0, length-set parents i a ∙ p .long .1);
-        course = record {
-          raises = suc (p .course .raises);
-          few = omega (arith, p .course .few);
-          risen = raise {p = p .course .raises} {D = timesOf departs} {E = timesOf after} i (p .course .risen) step;
-          stamps = _;
-          parented = parents-on;
-        };
-        later = λ j h. omega (arith, p .later j h, grows j h);
-        tried = λ z k. elim (ℕ-discrete z x) [
-          | yes q ↦ rw (q, new) (raised-mono s n l m shaped D (timesOf departs) (p .later) i here)
-          | no q ↦ elim (ℕ-discrete (todo z) i) [
-            | yes o ↦ (let t = p .tried z (omega arith) in rw o (let u = rw o at t in omega (arith, u, grows i here)))
-            | no o ↦ rw (other (todo z) o) (p .tried z (omega arith))
-          ]
-        ];
-        enlisted = en;
-        waits = waiting;
-        rose = λ k. rw new (omega (arith, p .later i here, up));
-        none = λ k. let o : ⊥ = omega (arith, here) in absurd o;
-      }
-
-  -- at the end of a pass
-  module _ (departs parents marks next : List ℕ) (listed last : ℕ) (p : Passing s n l number b D todo count count departs parents marks next listed last) where
-    pub pass-whole : Waits s n l D todo count → (j : ℕ) → j < l → raised s n D j ≤ getD departs j 0
-    pass-whole w j h = elim (w .all j h) [
-      | inl e ↦ omega (arith, e, p .later j h)
-      | inr o ↦ rw (o .2) at (p .tried (o .0) (o .1))
-    ]
-
-    pub pass-waits : Waits s n l (timesOf departs) (timesOf next) listed
-    pass-waits = record {
-      nodes = p .enlisted .nodes;
-      all = λ j h. elim (p .waits j h) [
-        | inl e ↦ inl e
-        | inr (inl o) ↦ (let z : ⊥ = omega (arith, o .1, o .2) in absurd z)
-        | inr (inr o) ↦ inr o
-      ];
-    }
-
-    pub pass-rose : (listed ≡ 0 → ⊥) → (last < l) × (D last < getD departs last 0)
-    pass-rose d = elim (decLt last l) [ yes k ↦ (k, p .rose k) | no k ↦ absurd (d (p .none (omega arith))) ]
+      pub passing-rises : Passing s n l D P node (x + 1) lifted (set parents (node x) a) (node x)
+      passing-rises =
+          let g = step D node x departs here ranged (p .swept) in
+          let room : node x < length parents = omega (arith, here, t .shaped .nodes, p .long) in
+          record {
+            swept = sweep-more D node x departs here ranged (p .swept);
+            long = length-set parents (node x) a ∙ p .long;
+            course = λ base c. let k = p .course base c in record {
+              raises = suc (k .raises);
+              stamps = _;
+              parented = parented-more s n l (t .arcs) (t .shaped) (node x) (timesOf departs) (timesOf lifted) (k .stamps) (k .raises) parents a g up
+                  (d .above) (d .below) (d .brings) ranged room (k .parented);
+            };
+            rose = λ k. rw (g .new) (omega (arith, p .swept .later (node x) here, up));
+            same = λ k. let o : ⊥ = omega (arith, here) in absurd o;
+          }

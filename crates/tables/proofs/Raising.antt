@@ -1,4 +1,4 @@
--- Raises stay within the range of numbers, keep the order of departures, and are the flow's updates in place.
+-- Raises keep the order of departures, take no more room than there is, and are the flow's updates in place.
 use mathlib.Core.Path.{_≡_, sym, ap, _∙_}
 use mathlib.Core.Bool.{Bool, true, false, cond}
 use Prim.Native.Nat.{ℕ, zero, suc, _+_, _-_, _*_, _<_, _≤_, max}
@@ -8,13 +8,14 @@ use lib.Dec.{eqb}
 use borrow.Author.Tests.{ne-eqb}
 use Rattle.ticks.specs.Raised.{RAISE, lower}
 use Rattle.ticks.proofs.Raised.{lower-le, le-lower}
-use Rattle.flow.specs.Flow.{Flow, Good, Side, late, early, next, round, Fits, Least}
+use Rattle.flow.specs.Flow.{Flow, Good, Side, late, early, next, round, Least}
 use Rattle.flow.specs.Bounds.{Bounded}
 use Rattle.flow.specs.Updates.{Updated, launched, updated}
 use Rattle.flow.proofs.Updates.{updated-rises, updated-least, pass-round}
-use Rattle.tables.specs.Net.{Arcs, Net, brought, better, best, degree, arrivalN, departing, departN, Shaped, Ranged}
+use Rattle.tables.specs.Net.{Arcs, Net, brought, better, best, launching, degree, arrivalN, departing, departN, Shaped, Ranged}
 use Rattle.tables.specs.Models.{Models}
-use Rattle.tables.specs.Raise.{raised, Raise, Risen, at-launch, raise, Passed, none, pass, Modest}
+use Rattle.tables.specs.Raise.{raised, Raise, Risen, at-launch, raise, Passed, none, pass, Room, Sweepable}
+use Rattle.tables.specs.Passing.{Same, Still}
 use Rattle.tables.proofs.Models.{lowered, depart-models}
 
 step : {a b c : ℕ} → a ≤ b → b ≤ c → a ≤ c
@@ -67,20 +68,31 @@ module _ (s : Side) (n : Net) (l m : ℕ) (shaped : Shaped n l m) where
     | no q ↦ rw (r .rest j here q) (omega arith)
   ]
 
-  pub risen-launch : {p : ℕ} {D : ℕ → ℕ} → Risen s n l p D → Before l (n .launch) D
+  pub raised-still : (D E : ℕ → ℕ) → Same l D E → ((j : ℕ) → j < l → raised s n D j ≤ E j) → Still s n l E
+  raised-still D E same h j here =
+      omega (arith, raised-mono E D (λ i k. omega (arith, same i k)) j here, h j here, raised-above E j here)
+
+  pub risen-launch : {launch D : ℕ → ℕ} → Risen s n l launch D → Before l launch D
   risen-launch (at-launch e) i here = rw (e i here) (omega arith)
-  risen-launch (raise {p} {D} {E} i h r) j here = omega (arith, risen-launch h j here, raise-rises i D E r j here)
+  risen-launch (raise {D} {E} i h r g) j here = omega (arith, risen-launch h j here, raise-rises i D E g j here)
 
   -- passes
-  pub passed-later : {k : ℕ} {D : ℕ → ℕ} (E : ℕ → ℕ) → Passed s n l k D → Before l D E → Passed s n l k E
-  passed-later E (none {D} h) b = none {D = E} (λ i here. omega (arith, h i here, b i here))
-  passed-later E (pass {k} {D} h g r) b = pass {k = k} {D = D} {E = E} h g (λ i here. omega (arith, r i here, b i here))
+  pub passed-later : {base : ℕ → ℕ} {k : ℕ} {D : ℕ → ℕ} → Passed s n l base k D → Before l base D
+  passed-later (none h) i here = h i here
+  passed-later (pass {k} {D} {E} h g r) i here = omega (arith, passed-later h i here, raised-above D i here, r i here)
 
-  pub passed-launch : {k : ℕ} {D : ℕ → ℕ} → Passed s n l k D → Before l (n .launch) D
-  passed-launch (none h) i here = h i here
-  passed-launch (pass {k} {D} {E} h g r) i here = omega (arith, passed-launch h i here, raised-above D i here, r i here)
+  -- passes from a base are passes from all that is below it
+  pub passed-from : {launch base : ℕ → ℕ} → Before l launch base → {k : ℕ} {D : ℕ → ℕ} → Passed s n l base k D → Passed s n l launch k D
+  passed-from b (none {D} h) = none {D = D} (λ i here. omega (arith, b i here, h i here))
+  passed-from b (pass {k} {D} {E} h g r) = pass {k = k} {D = D} {E = E} (passed-from b h) g r
 
--- sizes: a raise adds no more than a lead
+-- room: a raise adds no more than a lead
+pub room-ranged : {l b : ℕ} {D : ℕ → ℕ} → Room l b D → Ranged l D
+room-ranged r = record { low = r .low; high = λ i here. omega (arith, r .high i here) }
+
+pub room-less : {l c : ℕ} {D : ℕ → ℕ} (b : ℕ) → b ≤ c → Room l c D → Room l b D
+room-less b h r = record { low = r .low; high = λ i here. omega (arith, r .high i here) }
+
 lead-high : (g : Arcs) (D : ℕ → ℕ) (x a : ℕ) → D (g .source a) < x → g .lead a < RAISE → brought g D a < x + RAISE
 lead-high g D x a h k = omega arith
 
@@ -94,85 +106,75 @@ best-high late g D x a (suc k) h r =
     omega arith
 best-high early g D x a k h r = let t = lead-high g D x (a + k) (h (a + k) (omega arith)) (r (a + k) (omega arith)) in omega arith
 
-module _ (s : Side) (n : Net) (l m : ℕ) (shaped : Shaped n l m) (modest : Modest n l m) where
+module _ (s : Side) (n : Net) (l : ℕ) (t : Sweepable n l) where
   raised-high : (D : ℕ → ℕ) (x : ℕ) → ((i : ℕ) → i < l → D i < x) → (i : ℕ) → i < l → raised s n D i < x + RAISE
   unfolding raised
-  raised-high D x h i here = go (n .latch i) (degree n i) (omega (arith, shaped .rises i here))
+  raised-high D x h i here = go (n .latch i) (degree n i) (omega (arith, t .shaped .rises i here))
     where
       go : (b : Bool) (d : ℕ) → n .first i + d ≤ n .first (i + 1) → departing b d (best s (n .arcs) D (n .first i) d) (D i) < x + RAISE
       go false d e = omega (arith, h i here)
       go true zero e = omega (arith, h i here)
       go true (suc d) e =
-          let t = best-high s (n .arcs) D x (n .first i) d
-          (λ b o. h (n .arcs .source b) (shaped .sources b (omega (arith, shaped .ends i here))))
-          (λ b o. modest .leads b (omega (arith, shaped .ends i here))) in
+          let u = best-high s (n .arcs) D x (n .first i) d
+          (λ b o. h (n .arcs .source b) (t .shaped .sources b (omega (arith, t .shaped .ends i here))))
+          (λ b o. t .leads b (omega (arith, t .shaped .ends i here))) in
           rw (ne-eqb (suc d) 0 (λ q. omega arith)) (omega (arith, h i here))
 
-  pub risen-high : {p : ℕ} {D : ℕ → ℕ} → Risen s n l p D → (i : ℕ) → i < l → D i < 8589934592 + p * RAISE
-  risen-high (at-launch e) i here = rw (e i here) (omega (arith, modest .high i here))
-  risen-high (raise {p} {D} {E} i h r) j here =
-      let old = risen-high h in
-      elim (ℕ-discrete j i) [
-        | yes q ↦ rw (q, r .new) (omega (arith, raised-high D (8589934592 + p * RAISE) old i (r .here)))
-        | no q ↦ rw (r .rest j here q) (omega (arith, old j here))
-      ]
-
-  -- at most l passes over l nodes
-  pub risen-ranged : {p : ℕ} {D : ℕ → ℕ} → Risen s n l p D → p ≤ 262144 → Ranged l D
-  risen-ranged h few = record {
-    low = λ i here. omega (arith, modest .low i here, risen-launch s n l m shaped h i here);
-    high = λ i here. omega (arith, risen-high h i here);
+  pub room-raise : {i : ℕ} {D E : ℕ → ℕ} (b : ℕ) → Raise s n l i D E → Room l (suc b) D → Room l b E
+  room-raise {i} {D} {E} b g r = record {
+    low = λ j here. omega (arith, r .low j here, raise-rises s n l (t .arcs) (t .shaped) i D E g j here);
+    high = λ j here. elim (ℕ-discrete j i) [
+      | yes q ↦ rw (q, g .new) (omega (arith, r .high i (g .here), raised-high D (4611686018427387904 - suc b * RAISE) (λ k o. omega (arith, r .high k o)) i (g .here)))
+      | no q ↦ rw (g .rest j here q) (omega (arith, r .high j here))
+    ];
   }
 
-  -- raises are updates
-  module _ (f : Flow) (good : Good f) (models : Models n f) (same : f .nodes ≡ l) where
-    -- where a node departs between its launch and what the others lead to, both say the same
-    raised-is : (D : ℕ → ℕ) (i : ℕ) → n .launch i ≤ D i → D i ≤ departN s n D i → raised s n D i ≡ departN s n D i
-    unfolding raised departN
-    raised-is D i low high = go (n .latch i) (eqb (degree n i) 0) high
-      where
-        go : (b z : Bool) → D i ≤ cond b (cond z (n .launch i) (max (arrivalN s n D i) (n .launch i))) (n .launch i) →
-            cond b (cond z (D i) (max (arrivalN s n D i) (D i))) (D i) ≡ cond b (cond z (n .launch i) (max (arrivalN s n D i) (n .launch i))) (n .launch i)
-        go false z h = omega arith
-        go true true h = omega arith
-        go true false h = omega arith
+-- raises are updates of every flow that the tables hold
+module _ (s : Side) (n : Net) (l m : ℕ) (shaped : Shaped n l m) (launch : ℕ → ℕ) (f : Flow) (good : Good f) (models : Models (launching n launch) f)
+    (same : f .nodes ≡ l) where
+  -- where a node departs between its launch and what the others lead to, both say the same
+  raised-is : (D : ℕ → ℕ) (i : ℕ) → launch i ≤ D i → D i ≤ departN s (launching n launch) D i → raised s n D i ≡ departN s (launching n launch) D i
+  unfolding raised departN
+  raised-is D i low high = go (n .latch i) (eqb (degree n i) 0) high
+    where
+      go : (b z : Bool) → D i ≤ cond b (cond z (launch i) (max (arrivalN s n D i) (launch i))) (launch i) →
+          cond b (cond z (D i) (max (arrivalN s n D i) (D i))) (D i) ≡ cond b (cond z (launch i) (max (arrivalN s n D i) (launch i))) (launch i)
+      go false z h = omega arith
+      go true true h = omega arith
+      go true false h = omega arith
 
-    raised-next : {p : ℕ} {D : ℕ → ℕ} → Risen s n l p D → p ≤ 262144 → Updated s f p (lowered D) →
-        (i : ℕ) → i < l → lower (raised s n D i) ≡ next s f (lowered D) i
-    raised-next {p} {D} h few u i here =
-        let r = risen-ranged h few in
-        let e = depart-models s n f good models D (rw same r) i (rw same here) in
-        let low = risen-launch s n l m shaped h i here in
-        let high = le-lower (D i) (departN s n D i) (rw e (updated-rises s f good u i (rw same here))) in
-        ap lower (raised-is D i low high) ∙ e
+  raised-next : {D : ℕ → ℕ} → Risen s n l launch D → Ranged l D → Updated s f (lowered D) → (i : ℕ) → i < l → lower (raised s n D i) ≡ next s f (lowered D) i
+  raised-next {D} h r u i here =
+      let e = depart-models s (launching n launch) f good models D (rw same r) i (rw same here) in
+      let low = risen-launch s n l m shaped h i here in
+      let high = le-lower (D i) (departN s (launching n launch) D i) (rw e (updated-rises s f good u i (rw same here))) in
+      ap lower (raised-is D i low high) ∙ e
 
-    pub risen-updated : {p : ℕ} {D : ℕ → ℕ} → Risen s n l p D → p ≤ 262144 → Updated s f p (lowered D)
-    risen-updated (at-launch {D} e) few = launched {E = lowered D} (λ i here. ap lower (e i (rw same at here)) ∙ models .launch i here)
-    risen-updated (raise {p} {D} {E} i h r) few =
-        let u = risen-updated h (omega arith) in
-        updated {n = p} {E = lowered D} {F = lowered E} i u (record {
-          here = rw same (r .here);
-          new = ap lower (r .new) ∙ raised-next h (omega arith) u i (r .here);
-          rest = λ j here d. ap lower (r .rest j (rw same at here) d);
-        })
+  pub risen-updated : {D : ℕ → ℕ} → Risen s n l launch D → Updated s f (lowered D)
+  risen-updated (at-launch {D} e) = launched {E = lowered D} (λ i here. ap lower (e i (rw same at here)) ∙ models .launch i here)
+  risen-updated (raise {D} {E} i h r g) =
+      let u = risen-updated h in
+      updated {E = lowered D} {F = lowered E} i u (record {
+        here = rw same (g .here);
+        new = ap lower (g .new) ∙ raised-next h r u i (g .here);
+        rest = λ j here d. ap lower (g .rest j (rw same at here) d);
+      })
 
-    pub still-fits : {p : ℕ} {D : ℕ → ℕ} → Risen s n l p D → p ≤ 262144 → ((i : ℕ) → i < l → raised s n D i ≡ D i) → Fits s f (lowered D)
-    still-fits h few still i here =
-        let k = rw same at here in
-        sym (ap lower (still i k)) ∙ raised-next h few (risen-updated h few) i k
+  -- nothing is left to raise
+  pub risen-least : {D : ℕ → ℕ} → Risen s n l launch D → Ranged l D → Still s n l D → Least s f (lowered D)
+  risen-least h r still = updated-least s f good (risen-updated h) (λ i here.
+      let k = rw same at here in
+      sym (ap lower (still i k)) ∙ raised-next h r (risen-updated h) i k)
 
-    pub risen-least : {p : ℕ} {D : ℕ → ℕ} → Risen s n l p D → p ≤ 262144 → ((i : ℕ) → i < l → raised s n D i ≡ D i) → Least s f (lowered D)
-    risen-least h few still = updated-least s f good (risen-updated h few) (still-fits h few still)
+  -- what the others lead to is no later than what a node is raised to
+  depart-raised : (D : ℕ → ℕ) (i : ℕ) → launch i ≤ D i → departN s (launching n launch) D i ≤ raised s n D i
+  unfolding raised departN
+  depart-raised D i low = departing-mono (n .latch i) (degree n i) (arrivalN s n D i) (arrivalN s n D i) (launch i) (D i) (omega arith) low
 
-    -- what the others lead to is no later than what a node is raised to
-    depart-raised : (D : ℕ → ℕ) (i : ℕ) → n .launch i ≤ D i → departN s n D i ≤ raised s n D i
-    unfolding raised departN
-    depart-raised D i low = departing-mono (n .latch i) (degree n i) (arrivalN s n D i) (arrivalN s n D i) (n .launch i) (D i) (omega arith) low
-
-    pub passed-round : {k : ℕ} {D : ℕ → ℕ} → Passed s n l k D → Bounded late f (round s f k) (lowered D)
-    unfolding round
-    passed-round (none {D} h) i here = rw (← models .launch i here) (lower-le (h i (rw same at here)))
-    passed-round (pass {k} {D} {E} h g r) j here = pass-round s f good k (lowered D) (lowered E) (passed-round h) (λ i here.
-        let j = rw same at here in
-        let e = depart-models s n f good models D (rw same g) i here in
-        rw (← e) (lower-le (step (depart-raised D i (passed-launch s n l m shaped h i j)) (r i j)))) j here
+  pub passed-round : {k : ℕ} {D : ℕ → ℕ} → Passed s n l launch k D → Bounded late f (round s f k) (lowered D)
+  unfolding round
+  passed-round (none {D} h) i here = rw (← models .launch i here) (lower-le (h i (rw same at here)))
+  passed-round (pass {k} {D} {E} h g r) j here = pass-round s f good k (lowered D) (lowered E) (passed-round h) (λ i here.
+      let j = rw same at here in
+      let e = depart-models s (launching n launch) f good models D (rw same g) i here in
+      rw (← e) (lower-le (step (depart-raised D i (passed-later s n l m shaped h i j)) (r i j)))) j here

@@ -14,10 +14,10 @@ use borrow.Author.Tests.{eqb-false, eq-eqb, ne-eqb}
 use Rattle.flow.specs.Flow.{Side}
 use Rattle.tables.specs.Net.{Net, timesOf, brought, degree, arrivalN, Shaped, Ranged}
 use Rattle.tables.specs.Raise.{raised, Raise}
-use Rattle.tables.specs.Parents.{ParentN, Parented}
+use Rattle.tables.specs.Parents.{ParentN, Parented, Course}
 
-pub parented-none : (n : Net) (l : ℕ) (D P : ℕ → ℕ) → ((i : ℕ) → i < l → D i ≡ n .launch i) → Parented n l D P (λ i. 0) 0
-parented-none n l D P h = record { each = λ i k. inl (h i k); stamps = λ i k. omega arith }
+pub course-none : (n : Net) (l : ℕ) (D P : ℕ → ℕ) → Course n l D D P
+course-none n l D P = record { raises = 0; stamps = λ i. 0; parented = record { each = λ i k. inl refl; stamps = λ i k. omega arith } }
 
 -- a node that rises is a latch that an arc enters, and rises to its arrival
 pub rising : (s : Side) (n : Net) (D : ℕ → ℕ) (i : ℕ) → D i < raised s n D i →
@@ -59,8 +59,8 @@ module _ (s : Side) (n : Net) (l m : ℕ) (shaped : Shaped n l m) (i : ℕ) (D E
     | no q ↦ omega (arith, brings-same b k q)
   ]
 
-  pub parented-more : Parented n l D (timesOf parents) T p → Parented n l E (timesOf (set parents i a)) stamped (suc p)
-  parented-more h = record {
+  pub parented-more : {base : ℕ → ℕ} → Parented n l base D (timesOf parents) T p → Parented n l base E (timesOf (set parents i a)) stamped (suc p)
+  parented-more {base} h = record {
     each = λ j here. elim (ℕ-discrete j i) [ yes q ↦ rw q (inr mine) | no q ↦ theirs j here q (h .each j here) ];
     stamps = λ j here. elim (ℕ-discrete j i) [
       | yes q ↦ rw (q, stamp-here) (omega arith)
@@ -89,8 +89,8 @@ module _ (s : Side) (n : Net) (l m : ℕ) (shaped : Shaped n l m) (i : ℕ) (D E
         ];
       })
 
-      theirs : (j : ℕ) → j < l → (j ≡ i → ⊥) → (D j ≡ n .launch j) ⊎ ParentN n D T j (timesOf parents j) →
-          (E j ≡ n .launch j) ⊎ ParentN n E stamped j (timesOf (set parents i a) j)
+      theirs : (j : ℕ) → j < l → (j ≡ i → ⊥) → (D j ≡ base j) ⊎ ParentN n D T j (timesOf parents j) →
+          (E j ≡ base j) ⊎ ParentN n E stamped j (timesOf (set parents i a) j)
       theirs j here d (inl e) = inl (r .rest j here d ∙ e)
       theirs j here d (inr q) =
           let b = timesOf parents j in

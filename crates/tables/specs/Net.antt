@@ -36,6 +36,14 @@ pub record Net : Type 0 where
 abbrev pub netOf : Arcs → List ℕ → List ℕ → List ℕ → Net
 netOf arcs first launch latch = record { arcs = arcs; first = timesOf first; launch = timesOf launch; latch = λ i. eqb (timesOf latch i) 1 }
 
+-- tables with no launches: raising asks for none
+abbrev pub webOf : Arcs → List ℕ → List ℕ → Net
+webOf arcs first latch = record { arcs = arcs; first = timesOf first; launch = λ i. 0; latch = λ i. eqb (timesOf latch i) 1 }
+
+-- the same tables with other launches
+abbrev pub launching : Net → (ℕ → ℕ) → Net
+launching n launch = record { arcs = n .arcs; first = n .first; launch = launch; latch = n .latch }
+
 -- what an arc brings, raised
 abbrev pub brought : Arcs → (ℕ → ℕ) → ℕ → ℕ
 brought g D a = D (g .source a) + g .lead a - g .cycle

@@ -1,73 +1,85 @@
--- A pass over the nodes that are listed, each of them raised in place.
+-- Passes over all nodes, each of them raised in place.
 use mathlib.Core.Path.{_≡_}
 use mathlib.Core.Bool.{Bool, true, false}
 use mathlib.Core.List.{List}
-use mathlib.Core.Logic.{_⊎_}
-use Prim.Native.Nat.{ℕ, suc, _+_, _-_, _*_, _<_, _≤_}
+use Prim.Native.Nat.{ℕ, zero, suc, _+_, _-_, _*_, _<_, _≤_}
+use lib.IntN.{ℤ}
 use lib.ListN.{length, getD}
-use Rattle.flow.specs.Flow.{Side}
-use Rattle.tables.specs.Net.{Net, timesOf, Shaped}
-use Rattle.tables.specs.Raise.{raised, Risen, Passed, Modest}
-use Rattle.tables.specs.Parents.{Parented, Endless}
-use Rattle.tables.specs.Listing.{Listed, Enlisted, Onward}
+use Rattle.flow.specs.Flow.{Flow, Good, Side, late, early}
+use Rattle.flow.specs.Walk.{GrowingRing, Shown}
+use Rattle.tables.specs.Net.{Net, timesOf, launching, Ranged}
+use Rattle.tables.specs.Models.{Models}
+use Rattle.tables.specs.Raise.{raised, Risen, Passed, Room}
+use Rattle.tables.specs.Parents.{Course}
 
--- departures that at most b raises made, and the parents
-pub record Course (s : Side) (n : Net) (l : ℕ) (D P : ℕ → ℕ) (b : ℕ) : Type 0 where
-  pub raises : ℕ
-  pub few : raises ≤ b
-  pub risen : Risen s n l raises D
-  pub stamps : ℕ → ℕ
-  pub parented : Parented n l D P stamps raises
+-- place z of a pass over l places that goes to, or fro
+abbrev pub toOrFro : Bool → ℕ → ℕ → ℕ
+toOrFro true l z = z
+toOrFro false l z = l - 1 - z
 
--- every node that can be raised is listed, and all that is listed are nodes
-pub record Waits (s : Side) (n : Net) (l : ℕ) (D list : ℕ → ℕ) (count : ℕ) : Type 0 where
-  pub nodes : (x : ℕ) → x < count → list x < l
-  pub all : (j : ℕ) → j < l → (raised s n D j ≡ D j) ⊎ Listed list count j
+-- E is as D was
+abbrev pub Same : ℕ → (ℕ → ℕ) → (ℕ → ℕ) → Type 0
+Same l D E = (j : ℕ) → j < l → E j ≡ D j
 
--- j is listed from place x on
-abbrev pub From : (ℕ → ℕ) → ℕ → ℕ → ℕ → Type 0
-From list x count j = (z : ℕ) × (x ≤ z) × (z < count) × (list z ≡ j)
+-- none can be raised
+abbrev pub Still : Side → Net → ℕ → (ℕ → ℕ) → Type 0
+Still s n l D = (i : ℕ) → i < l → raised s n D i ≡ D i
 
--- x of the listed nodes were tried, from the departures D on; `last` is the last that was raised, or l
-pub record Passing (s : Side) (n : Net) (l number b : ℕ) (D todo : ℕ → ℕ) (count x : ℕ) (departs parents marks next : List ℕ) (listed last : ℕ) : Type 0 where
-  pub long : (length departs ≡ 512) × (length parents ≡ 512)
-  pub course : Course s n l (timesOf departs) (timesOf parents) (b + x)
+-- what has risen to D has risen to E, whatever the launches were
+abbrev pub Onward : Side → Net → ℕ → (ℕ → ℕ) → (ℕ → ℕ) → Type 0
+Onward s n l D E = (launch : ℕ → ℕ) → Risen s n l launch D → Risen s n l launch E
+
+-- of a pass over the given nodes x were tried, from the departures D on
+pub record Swept (s : Side) (n : Net) (l : ℕ) (D node : ℕ → ℕ) (x : ℕ) (departs : List ℕ) : Type 0 where
+  pub long : length departs ≡ 512
+  pub onward : Onward s n l D (timesOf departs)
   pub later : (j : ℕ) → j < l → D j ≤ getD departs j 0
-  pub tried : (z : ℕ) → z < x → raised s n D (todo z) ≤ getD departs (todo z) 0
-  pub enlisted : Enlisted l number marks next listed
-  pub waits : (j : ℕ) → j < l → (raised s n (timesOf departs) j ≡ getD departs j 0) ⊎ (From todo x count j ⊎ Listed (timesOf next) listed j)
+  pub tried : (z : ℕ) → z < x → raised s n D (node z) ≤ getD departs (node z) 0
+  pub room : (b : ℕ) → Room l (b + x) D → Room l b (timesOf departs)
+
+-- the first passes, which note nothing: they may have settled, and leave room for l passes more
+pub record Settling (s : Side) (n : Net) (l : ℕ) (D : ℕ → ℕ) (departs : List ℕ) (done : Bool) : Type 0 where
+  pub long : length departs ≡ 512
+  pub onward : Onward s n l D (timesOf departs)
+  pub room : Room l 262144 (timesOf departs)
+  pub still : done ≡ true → Still s n l (timesOf departs)
+
+-- the same of a pass that notes parents; `last` is the last node that was raised, or l
+pub record Passing (s : Side) (n : Net) (l : ℕ) (D P node : ℕ → ℕ) (x : ℕ) (departs parents : List ℕ) (last : ℕ) : Type 0 where
+  pub swept : Swept s n l D node x departs
+  pub long : length parents ≡ 512
+  pub course : (base : ℕ → ℕ) → Course n l base D P → Course n l base (timesOf departs) (timesOf parents)
   pub rose : last < l → D last < getD departs last 0
-  pub none : l ≤ last → listed ≡ 0
+  pub same : l ≤ last → Same l D (timesOf departs)
 
--- the tables can be passed over
-pub record Passable (s : Side) (n : Net) (l m : ℕ) (target heads links : ℕ → ℕ) : Type 0 where
-  pub shaped : Shaped n l m
-  pub modest : Modest n l m
-  pub onward : Onward (n .arcs .source) (n .first) l m target heads links
-
--- a pass can start: it is one of the first l, its number marks no node yet, and who can be raised is listed
-pub record StartsPass (s : Side) (n : Net) (l number : ℕ) (todo : ℕ → ℕ) (count : ℕ) (departs parents marks next : List ℕ) : Type 0 where
-  pub first : 0 < number
-  pub most : number ≤ l
-  pub small : count ≤ 512
-  pub long : (length departs ≡ 512) × (length parents ≡ 512)
-  pub course : Course s n l (timesOf departs) (timesOf parents) ((number - 1) * 512)
-  pub enlisted : Enlisted l number marks next 0
-  pub waits : Waits s n l (timesOf departs) todo count
-
--- passes came to an end: no node can be raised any more; or pass l still raised node u; or the walk back over parents from u never ends
-pub data Climbed (s : Side) (n : Net) (l : ℕ) (D P : ℕ → ℕ) (u : ℕ) : Bool → Type 0 where
-  settled : Course s n l D P 262144 → ((i : ℕ) → i < l → raised s n D i ≡ D i) → Climbed s n l D P u true
-  unsettled : (k : ℕ) (E : ℕ → ℕ) → l ≡ suc k → Course s n l D P 262144 → Passed s n l k E → u < l → E u < D u → Climbed s n l D P u false
-  ringed : Course s n l D P 262144 → u < l → Endless (n .arcs .source) P (n .launch) D l u → Climbed s n l D P u false
-
--- after k passes: who can still be raised is listed; if there are any, pass k raised `last`
-pub record Climbing (s : Side) (n : Net) (l : ℕ) (departs parents marks todo next : List ℕ) (count last k : ℕ) : Type 0 where
+-- after k passes from the base, with none of l that found nothing
+pub record Climbing (s : Side) (n : Net) (l : ℕ) (base : ℕ → ℕ) (departs parents : List ℕ) (k : ℕ) : Type 0 where
   pub few : k ≤ l
-  pub small : count ≤ 512
-  pub long : (length departs ≡ 512) × (length parents ≡ 512) × (length marks ≡ 512) × (length next ≡ 512)
-  pub course : Course s n l (timesOf departs) (timesOf parents) (k * 512)
-  pub passed : Passed s n l k (timesOf departs)
-  pub waits : Waits s n l (timesOf departs) (timesOf todo) count
-  pub bound : (j : ℕ) → getD marks j 0 ≤ k
-  pub rose : (count ≡ 0 → ⊥) → (j : ℕ) → k ≡ suc j → (E : ℕ → ℕ) × Passed s n l j E × (last < l) × (E last < getD departs last 0)
+  pub long : (length departs ≡ 512) × (length parents ≡ 512)
+  pub onward : Onward s n l base (timesOf departs)
+  pub course : Course n l base (timesOf departs) (timesOf parents)
+  pub passed : Passed s n l base k (timesOf departs)
+  pub room : Room l ((l - k) * 512) (timesOf departs)
+
+-- of every flow that the tables hold, with whatever launches
+abbrev pub OfFlows : Net → ℕ → (Flow → (ℕ → ℕ) → Type 0) → Type 0
+OfFlows n l P = (launch : ℕ → ℕ) (f : Flow) → Good f → Models (launching n launch) f → f .nodes ≡ l → P f launch
+
+-- what the early side is told of a flow, and the late side finds out by itself
+abbrev pub Calm : Side → Flow → Type 0
+Calm late f = Unit {0}
+Calm early f = GrowingRing f → ⊥
+
+-- D did not rise from the launches of a flow that the tables hold, unless a ring grows that the late side would have found
+abbrev pub Never : Side → Net → ℕ → (ℕ → ℕ) → Type 0
+Never s n l D = OfFlows n l (λ f launch. Risen s n l launch D → Calm s f → ⊥)
+
+-- how passes from D end
+pub data Ended (s : Side) (n : Net) (l : ℕ) (D : ℕ → ℕ) (departs : List ℕ) : ℕ → ℤ → List ℕ → List ℕ → Type 0 where
+  -- none can be raised any more: no ring is counted, the buffer stays
+  settled : {gain : ℤ} {arcs : List ℕ} → Onward s n l D (timesOf departs) → Ranged l (timesOf departs) → Still s n l (timesOf departs) → Ended s n l D departs 0 gain arcs arcs
+  -- a ring grows, and is shown in the buffer
+  ringed : {count : ℕ} {gain : ℤ} {before after : List ℕ} → 0 < count → OfFlows n l (λ f launch. Shown f count gain before after) →
+      Ended s n l D departs count gain before after
+  -- pass l still raised one, and no ring was found. That cannot be: for the late side never, for the early side where none grows
+  beyond : {gain : ℤ} {arcs : List ℕ} → Never s n l D → Ended s n l D departs 0 gain arcs arcs

@@ -2,11 +2,11 @@
 use mathlib.Core.Path.{_≡_}
 use mathlib.Core.Bool.{Bool, true, false}
 use mathlib.Core.List.{List}
-use Prim.Native.Nat.{ℕ, zero, suc, _+_, _-_, _<_, _≤_}
+use Prim.Native.Nat.{ℕ, zero, suc, _+_, _-_, _*_, _<_, _≤_}
 use lib.ListN.{getD, set}
 use Rattle.ticks.specs.Raised.{RAISE}
 use Rattle.flow.specs.Flow.{Side}
-use Rattle.tables.specs.Net.{Arcs, Net, timesOf, brought, better, best, degree, arrivalN, departing, Ranged}
+use Rattle.tables.specs.Net.{Arcs, Net, timesOf, brought, better, best, degree, arrivalN, departing, Shaped, Ranged}
 
 -- when node i departs, if it departs no sooner than it does
 unfoldable pub raised : Side → Net → (ℕ → ℕ) → ℕ → ℕ
@@ -18,21 +18,26 @@ pub record Raise (s : Side) (n : Net) (l i : ℕ) (D E : ℕ → ℕ) : Type 0 w
   pub new : E i ≡ raised s n D i
   pub rest : (j : ℕ) → j < l → (j ≡ i → ⊥) → E j ≡ D j
 
--- what p raises make of the launches
-pub data Risen (s : Side) (n : Net) (l : ℕ) : ℕ → (ℕ → ℕ) → Type 0 where
-  at-launch : {D : ℕ → ℕ} → ((i : ℕ) → i < l → D i ≡ n .launch i) → Risen s n l zero D
-  raise : {p : ℕ} {D E : ℕ → ℕ} (i : ℕ) → Risen s n l p D → Raise s n l i D E → Risen s n l (suc p) E
+-- what raises make of the launches, each from times that can be reckoned with
+pub data Risen (s : Side) (n : Net) (l : ℕ) (launch : ℕ → ℕ) : (ℕ → ℕ) → Type 0 where
+  at-launch : {D : ℕ → ℕ} → ((i : ℕ) → i < l → D i ≡ launch i) → Risen s n l launch D
+  raise : {D E : ℕ → ℕ} (i : ℕ) → Risen s n l launch D → Ranged l D → Raise s n l i D E → Risen s n l launch E
 
--- after k passes: each gave every node at least what the departures before it lead to, and those could be reckoned with
-pub data Passed (s : Side) (n : Net) (l : ℕ) : ℕ → (ℕ → ℕ) → Type 0 where
-  none : {D : ℕ → ℕ} → ((i : ℕ) → i < l → n .launch i ≤ D i) → Passed s n l zero D
-  pass : {k : ℕ} {D E : ℕ → ℕ} → Passed s n l k D → Ranged l D → ((i : ℕ) → i < l → raised s n D i ≤ E i) → Passed s n l (suc k) E
+-- after k passes from a base: each gave every node at least what the departures before it lead to, and those could be reckoned with
+pub data Passed (s : Side) (n : Net) (l : ℕ) (base : ℕ → ℕ) : ℕ → (ℕ → ℕ) → Type 0 where
+  none : {D : ℕ → ℕ} → ((i : ℕ) → i < l → base i ≤ D i) → Passed s n l base zero D
+  pass : {k : ℕ} {D E : ℕ → ℕ} → Passed s n l base k D → Ranged l D → ((i : ℕ) → i < l → raised s n D i ≤ E i) → Passed s n l base (suc k) E
 
--- the numbers of the tables are small enough for as many raises as l passes over l nodes can be
-pub record Modest (n : Net) (l m : ℕ) : Type 0 where
-  pub low : (i : ℕ) → i < l → RAISE ≤ n .launch i
-  pub high : (i : ℕ) → i < l → n .launch i < 8589934592
-  pub leads : (a : ℕ) → a < m → n .arcs .lead a < RAISE
+-- times that can be reckoned with, and after b more raises too
+pub record Room (l b : ℕ) (D : ℕ → ℕ) : Type 0 where
+  pub low : (i : ℕ) → i < l → RAISE ≤ D i
+  pub high : (i : ℕ) → i < l → D i + b * RAISE < 4611686018427387904
+
+-- tables of l nodes that passes can go over: they stay within their bounds, and no arc adds much
+pub record Sweepable (n : Net) (l : ℕ) : Type 0 where
+  pub arcs : ℕ
+  pub shaped : Shaped n l arcs
+  pub leads : (a : ℕ) → a < arcs → n .arcs .lead a < RAISE
 
 -- the flag says whether x would be picked before y
 pub data Beats (s : Side) (x y : ℕ) : Bool → Type 0 where
@@ -44,6 +49,12 @@ pub record Decides (s : Side) (g : Arcs) (D : ℕ → ℕ) (from to a : ℕ) : T
   pub above : from ≤ a
   pub below : a < to
   pub brings : brought g D a ≡ best s g D from (to - from)
+
+-- node i was raised in place; the flag says whether that changed it
+pub record Lifted (s : Side) (n : Net) (i : ℕ) (before : List ℕ) (changed : Bool) (after : List ℕ) : Type 0 where
+  pub stored : after ≡ set before i (raised s n (timesOf before) i)
+  pub rises : changed ≡ true → getD before i 0 < raised s n (timesOf before) i
+  pub stays : changed ≡ false → raised s n (timesOf before) i ≡ getD before i 0
 
 -- node i was tried: it stays, or it was raised and the arc that decided is noted
 pub data Tried (s : Side) (n : Net) (i : ℕ) (departs parents : List ℕ) : Bool → List ℕ → List ℕ → Type 0 where

@@ -1,28 +1,22 @@
 -- The path question on loaded tables. The table of first arcs says whether an arc leads in; where the passes do not settle a ring grows; where
 -- they do, their departures and ranks can be traced back, and the trail written is the path.
-use mathlib.Core.Bool.{Bool, false}
 use mathlib.Core.Path.{_≡_, sym, _∙_}
 use mathlib.Core.List.{List, [], _∷_, _++_}
-use mathlib.Core.Logic.{inl, inr, _≢_}
-use Prim.Native.Nat.{ℕ, suc, _+_, _-_, _<_}
+use mathlib.Core.Logic.{_≢_}
+use Prim.Native.Nat.{ℕ, suc, _+_, _<_}
 use native.Mathlib.Omega.{arith}
 use lib.ListN.{length, getD, length-append}
 use Rattle.image.specs.Valid.{Valid, imageIn}
 use Rattle.image.specs.declared.kind.Image.{Image}
-use Rattle.flow.specs.Flow.{late, round}
+use Rattle.flow.specs.Flow.{late}
 use Rattle.flow.specs.Bounds.{Unentered}
-use Rattle.flow.specs.Walk.{GrowingRing}
 use Rattle.flow.specs.Rank.{Rank}
 use Rattle.flow.proofs.Rank.{lowest-unique, rank}
-use Rattle.flow.proofs.Rounds.{settled-least}
-use Rattle.flow.proofs.Walks.{fits-calm}
-use Rattle.flow.proofs.Settles.{settles-or}
 use Rattle.circuit.specs.Circuit.{circuitOf}
 use Rattle.circuit.specs.Clock.{flow}
 use Rattle.circuit.proofs.Sound.{sound, good}
 use Rattle.tables.specs.Net.{timesOf, arcsOf}
 use Rattle.tables.specs.Ranks.{RanksUpTo}
-use Rattle.tables.specs.Passing.{Climbed}
 use Rattle.tables.proofs.Sweeps.{ranks-found}
 use Rattle.tables.specs.Trail.{Stepping}
 use Rattle.tables.proofs.Models.{lowered}
@@ -34,10 +28,10 @@ use Rattle.timing.specs.Paths.{Asked, PathCall, found}
 use Rattle.timing.specs.declared.ask.Way.the-variants.{Found}
 use Rattle.timing.proofs.Read.{counts}
 use Rattle.timing.proofs.Tracing.{source-here, behind}
-use Rattle.timing.proofs.Work.{side, models, shape, climbed-done}
+use Rattle.timing.proofs.Work.{side, models, shape}
 
 module _ (bytes : List ℕ) (v : Valid bytes) (image : Image) (same : image ≡ imageIn bytes)
-    (sources lates earlies first launches latches : List ℕ) (t : Loaded (circuitOf bytes) sources lates earlies first launches latches) where
+    {sources lates earlies first launches latches : List ℕ} (t : Loaded (circuitOf bytes) sources lates earlies first launches latches) where
   module _ (i : ℕ) (here : i < circuitOf bytes .synchronizers) where
     pub none-in : getD first i 0 ≡ getD first (i + 1) 0 → Unentered (flow late (circuitOf bytes)) i (circuitOf bytes .arcs)
     none-in e a l k = let h = t .firsts .outside i a here l k in omega (arith, h .0, h .1)
@@ -48,22 +42,6 @@ module _ (bytes : List ℕ) (v : Valid bytes) (image : Image) (same : image ≡ 
     pub first-in : getD first i 0 < getD first (i + 1) 0 → (getD first i 0 < circuitOf bytes .arcs) × (circuitOf bytes .to (getD first i 0) ≡ i)
     first-in l = (omega (arith, t .firsts .within i here), t .firsts .inside i (getD first i 0) here (omega arith) l)
 
-  pub ring-grows : (target heads links : ℕ → ℕ) (D P : List ℕ) (u : ℕ) {b : Bool} →
-      Climbed late (side late image sources lates earlies first launches latches) (image .synchronizers) (timesOf D) (timesOf P) u b → b ≡ false →
-      0 < image .synchronizers → GrowingRing (flow late (circuitOf bytes))
-  ring-grows target heads links D P u {b} h e some =
-      let c = circuitOf bytes in
-      let k = image .synchronizers - 1 in
-      let n = counts bytes image same in
-      elim (settles-or late (flow late c) (good late c (sound bytes v)) k (omega (arith, n .synchronizers))) [
-        | inl ring ↦ ring
-        | inr still ↦ (
-            let fits = settled-least late (flow late c) (good late c (sound bytes v)) k still .fits in
-            let q = climbed-done bytes v image same sources lates earlies first launches latches t late target heads links D P u h
-            (fits-calm (flow late c) (good late c (sound bytes v)) (round late (flow late c) k) fits) in
-            let y : _≡_ {A = ℕ} 0 1 = cc in let o : ⊥ = omega arith in absurd o)
-      ]
-
   pub ranks-are : (D R : List ℕ) → Known late (circuitOf bytes) D →
       RanksUpTo (side late image sources lates earlies first launches latches) (image .synchronizers) (timesOf D) (timesOf R) →
       (i : ℕ) → i < circuitOf bytes .synchronizers → Rank (flow late (circuitOf bytes)) (lowered (timesOf D)) i (timesOf R i)
@@ -71,22 +49,22 @@ module _ (bytes : List ℕ) (v : Valid bytes) (image : Image) (same : image ≡ 
       let n = counts bytes image same in
       let c = circuitOf bytes in
       ranks-found (side late image sources lates earlies first launches latches) (image .synchronizers) (image .arcs)
-      (shape bytes v image same sources lates earlies first launches latches t late) (flow late c) (good late c (sound bytes v))
-      (models bytes v image same sources lates earlies first launches latches t late) (sym (n .synchronizers)) (timesOf D) (rw (n .synchronizers) (known .ranged)) (known .least) (timesOf R) h i (rw (n .synchronizers) l)
+      (shape bytes v image same t late) (flow late c) (good late c (sound bytes v))
+      (models bytes v image same t late) (sym (n .synchronizers)) (timesOf D) (rw (n .synchronizers) (known .ranged)) (known .least) (timesOf R) h i (rw (n .synchronizers) l)
 
   module _ (D R : List ℕ) (known : Known late (circuitOf bytes) D)
       (ranks : (i : ℕ) → i < circuitOf bytes .synchronizers → Rank (flow late (circuitOf bytes)) (lowered (timesOf D)) i (timesOf R i)) where
     steps : Stepping (arcsOf sources lates (image .cycle)) (timesOf first) (timesOf D) (timesOf R) (circuitOf bytes .synchronizers)
     steps =
         stepping (side late image sources lates earlies first launches latches) (flow late (circuitOf bytes))
-        (good late (circuitOf bytes) (sound bytes v)) (models bytes v image same sources lates earlies first launches latches t late)
+        (good late (circuitOf bytes) (sound bytes v)) (models bytes v image same t late)
         (timesOf D) (timesOf R) (known .ranged) (known .least .fits) ranks
 
     pub traceable : Traceable (arcsOf sources lates (image .cycle)) (timesOf first) (image .synchronizers) (timesOf D) (timesOf R)
     traceable =
         let n = counts bytes image same in
         let c = circuitOf bytes in
-        let s = shape bytes v image same sources lates earlies first launches latches t late in
+        let s = shape bytes v image same t late in
         record {
           works = record {
             arcs = image .arcs;
@@ -110,7 +88,7 @@ module _ (bytes : List ℕ) (v : Valid bytes) (image : Image) (same : image ≡ 
         let d = timesOf R (w .source) in
         let low : d < length before = omega (arith, traceable .low (w .source) (rw (w .stepped .from) (source-here sources lates first D R (image .cycle) (image .synchronizers) traceable i (omega (arith, asked .inside, counts bytes image same .synchronizers)) a (w .stepped .via .below))), counts bytes image same .synchronizers, asked .arcs-fit) in
         let h = trail-path (side late image sources lates earlies first launches latches) (flow late c) (good late c (sound bytes v))
-        (models bytes v image same sources lates earlies first launches latches t late) (timesOf D) (timesOf R) (known .ranged) (known .least .fits)
+        (models bytes v image same t late) (timesOf D) (timesOf R) (known .ranged) (known .least .fits)
         ranks i s a q (asked .inside) (w .stepped .via) (rw (w .stepped .from) at (w .traced .trail)) in
         let e : suc d ≡ length (q ++ (a ∷ [])) = sym (length-append q (a ∷ []) ∙ omega (arith, trail-length g (timesOf first) (timesOf D) (timesOf R) d (w .source) s q (w .traced .trail))) in
         rw (w .counted ∙ e, rw e at (behind a d q before (w .middle) after low (w .stepped .written) (w .traced .written)))

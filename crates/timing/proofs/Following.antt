@@ -1,22 +1,22 @@
 -- The walk back over parents, one arc more, and its end.
 use mathlib.Core.Path.{_≡_, refl, sym, ap, _∙_}
 use mathlib.Core.List.{List}
-use Prim.Native.Nat.{ℕ, zero, suc, _+_, _<_, _≤_}
+use Prim.Native.Nat.{ℕ, suc, _+_, _<_}
 use native.Mathlib.Omega.{arith}
-use native.Mathlib.Decide.{ℕ-discrete, decLt}
+use native.Mathlib.Decide.{ℕ-discrete}
 use lib.ListN.{length, getD, set}
 use lib.Seq.{getD-set-same, getD-set-other}
 use Rattle.flow.specs.Flow.{Flow, Good}
 use Rattle.flow.proofs.Parents.{Parent, Line}
-use Rattle.tables.specs.Net.{Net, timesOf, Shaped, Ranged}
+use Rattle.tables.specs.Net.{Net, timesOf, launching, Shaped, Ranged}
 use Rattle.tables.specs.Models.{Models}
-use Rattle.tables.specs.Parents.{Parented, back, Endless}
+use Rattle.tables.specs.Parents.{Parented}
 use Rattle.tables.proofs.Models.{lowered}
-use Rattle.tables.proofs.Endless.{raised-flow}
-use Rattle.timing.specs.Ring.{Climbs, Climbed}
+use Rattle.tables.proofs.Rooting.{raised-flow}
+use Rattle.timing.specs.Ring.{Climbs}
 
-module _ (source parents launch departs : ℕ → ℕ) (l u : ℕ) where
-  pub climbs-none : (nodes trail : ℕ → ℕ) → u < l → Climbs source parents launch departs l u 0 nodes trail u
+module _ (source parents base departs : ℕ → ℕ) (l u : ℕ) where
+  pub climbs-none : (nodes trail : ℕ → ℕ) → u < l → Climbs source parents base departs l u 0 nodes trail u
   climbs-none nodes trail h = record {
     few = omega arith;
     here = h;
@@ -30,7 +30,7 @@ module _ (source parents launch departs : ℕ → ℕ) (l u : ℕ) where
   }
 
   module _ (nodes trail : List ℕ) (d node : ℕ) (room : d < length nodes)
-      (c : Climbs source parents launch departs l u d (timesOf nodes) (timesOf trail) node) where
+      (c : Climbs source parents base departs l u d (timesOf nodes) (timesOf trail) node) where
     spot : getD (set nodes d node) d 0 ≡ node
     spot = getD-set-same nodes d node 0 room
 
@@ -38,7 +38,7 @@ module _ (source parents launch departs : ℕ → ℕ) (l u : ℕ) where
     old x k = getD-set-other nodes d x node 0 (λ q. omega arith)
 
     -- the node is noted
-    pub climbs-end : Climbs source parents launch departs l u d (timesOf (set nodes d node)) (timesOf trail) (getD (set nodes d node) d 0)
+    pub climbs-end : Climbs source parents base departs l u d (timesOf (set nodes d node)) (timesOf trail) (getD (set nodes d node) d 0)
     climbs-end = rw spot (record {
       few = c .few;
       here = c .here;
@@ -52,14 +52,14 @@ module _ (source parents launch departs : ℕ → ℕ) (l u : ℕ) where
     })
 
     -- and so is its parent
-    module _ (a : ℕ) (space : d < length trail) (more : d < l) (up : departs node ≡ launch node → ⊥) (parent : a ≡ parents node) (inside : source a < l) where
+    module _ (a : ℕ) (space : d < length trail) (more : d < l) (up : departs node ≡ base node → ⊥) (parent : a ≡ parents node) (inside : source a < l) where
       top : getD (set trail d a) d 0 ≡ a
       top = getD-set-same trail d a 0 space
 
       kept : (x : ℕ) → x < d → getD (set trail d a) x 0 ≡ getD trail x 0
       kept x k = getD-set-other trail d x a 0 (λ q. omega arith)
 
-      pub climbs-more : Climbs source parents launch departs l u (d + 1) (timesOf (set nodes d node)) (timesOf (set trail d a)) (source a)
+      pub climbs-more : Climbs source parents base departs l u (d + 1) (timesOf (set nodes d node)) (timesOf (set trail d a)) (source a)
       climbs-more = record {
         few = omega arith;
         here = inside;
@@ -81,25 +81,10 @@ module _ (source parents launch departs : ℕ → ℕ) (l u : ℕ) where
           at-front : d ≡ 0 → getD (set nodes d node) 0 0 ≡ u
           at-front q = ap (λ (x : ℕ). getD (set nodes d node) x 0) (sym q) ∙ spot ∙ c .start q
 
--- the walk goes over `back`, so it is as long as every other
-module _ (source parents launch departs : ℕ → ℕ) (l u d : ℕ) (nodes trail : ℕ → ℕ) (c : Climbed source parents launch departs l u d nodes trail) where
-  pub walk-back : (x : ℕ) → x ≤ d → nodes x ≡ back source parents u x
-  walk-back zero h = elim (ℕ-discrete d 0) [ yes q ↦ rw q at (c .walk .start q) | no q ↦ c .walk .begin (omega arith) ]
-  walk-back (suc x) h =
-      let e = walk-back x (omega arith) in
-      let o : source (trail x) ≡ nodes (suc x) = elim (ℕ-discrete (suc x) d) [ yes q ↦ rw q (c .walk .last x q) | no q ↦ c .walk .onto x (omega arith) ] in
-      sym o ∙ ap source (c .walk .arc x (omega arith) ∙ ap parents e)
-
-  pub endless-long : Endless source parents launch departs l u → d ≡ l
-  endless-long never = elim (decLt d l) [
-    | no h ↦ omega (arith, c .walk .few)
-    | yes h ↦ absurd (never d h (rw (walk-back d (omega arith)) at (c .ends h)))
-  ]
-
 -- the walk on the tables is one of every flow that they hold
-module _ (n : Net) (l m : ℕ) (shaped : Shaped n l m) (f : Flow) (good : Good f) (models : Models n f) (same : f .nodes ≡ l) (D P T : ℕ → ℕ) (p : ℕ)
-    (ranged : Ranged l D) (parented : Parented n l D P T p) where
-  pub walk-line : (u d : ℕ) (nodes trail : ℕ → ℕ) → Climbs (n .arcs .source) P (n .launch) D l u d nodes trail (nodes d) →
+module _ (n : Net) (l m : ℕ) (shaped : Shaped n l m) (f : Flow) (good : Good f) (launch : ℕ → ℕ)
+    (models : Models (launching n launch) f) (same : f .nodes ≡ l) (base D P T : ℕ → ℕ) (p : ℕ) (ranged : Ranged l D) (parented : Parented n l base D P T p) where
+  pub walk-line : (u d : ℕ) (nodes trail : ℕ → ℕ) → Climbs (n .arcs .source) P base D l u d nodes trail (nodes d) →
       Line f (lowered D) T d nodes trail
   walk-line u d nodes trail c = record {
     small = λ x k. elim (ℕ-discrete x d) [ yes q ↦ rw (q, same) (c .here) | no q ↦ rw same (c .small x (omega arith)) ];
@@ -109,4 +94,4 @@ module _ (n : Net) (l m : ℕ) (shaped : Shaped n l m) (f : Flow) (good : Good f
   }
     where
       parent : (x : ℕ) → x < d → Parent f (lowered D) T (nodes x) (trail x)
-      parent x k = rw (c .arc x k) (raised-flow n l m shaped f good models same D P T p ranged parented (nodes x) (c .small x k) (c .raised x k))
+      parent x k = rw (c .arc x k) (raised-flow n l m shaped f good launch models same base D P T p ranged parented (nodes x) (c .small x k) (c .raised x k))

@@ -14,9 +14,9 @@ use Rattle.circuit.specs.Circuit.{Circuit, circuitOf}
 use Rattle.circuit.specs.Clock.{flow}
 use Rattle.circuit.proofs.Sound.{sound}
 use Rattle.circuit.proofs.Ranges.{launch-range}
-use Rattle.tables.specs.Net.{arcsOf, netOf, Shaped}
+use Rattle.tables.specs.Net.{Net, timesOf, arcsOf, netOf, webOf, Shaped}
 use Rattle.tables.specs.Models.{Models}
-use Rattle.tables.specs.Raise.{Modest}
+use Rattle.tables.specs.Raise.{Room, Sweepable}
 use Rattle.timing.specs.Loaded.{Leads, LoadedNodes, LoadedArcs, LoadedFirst, leadsOf}
 use Rattle.timing.proofs.Read.{counts}
 
@@ -43,7 +43,11 @@ module _ (bytes : List ℕ) (v : Valid bytes) (image : Image) (same : image ≡ 
     outside = firsts .outside;
   })
 
-  pub held-shape : Shaped (netOf (arcsOf sources (leadsOf s lates earlies) (image .cycle)) first launches latches) (image .synchronizers) (image .arcs)
+  -- the tables without launches
+  abbrev pub web : Net
+  web = webOf (arcsOf sources (leadsOf s lates earlies) (image .cycle)) first latches
+
+  pub held-shape : Shaped web (image .synchronizers) (image .arcs)
   held-shape =
       let c = sound bytes v in
       let n = counts bytes image same in
@@ -56,16 +60,23 @@ module _ (bytes : List ℕ) (v : Valid bytes) (image : Image) (same : image ≡ 
         cycle = omega (arith, c .cycle);
       })
 
-  -- launches lie between 0 and the cycle, raised, and leads are small
-  pub held-modest : Modest (netOf (arcsOf sources (leadsOf s lates earlies) (image .cycle)) first launches latches) (image .synchronizers) (image .arcs)
-  held-modest =
-      let c = circuitOf bytes in
-      let v' = sound bytes v in
-      let n = counts bytes image same in
-      rw (n .synchronizers, n .arcs) (record {
-        low = λ i l. le-lower RAISE (getD launches i 0) (rw (nodes .each i l .launch) (omega (ints, span RAISE, launch-range c v' i l .low)));
-        high = λ i l.
-            let h = le-lower (getD launches i 0) (RAISE + 1000000000) (rw (nodes .each i l .launch, lower-raise 1000000000) (omega (ints, launch-range c v' i l .high, v' .cycle))) in
-            omega arith;
-        leads = λ a l. leads-held s c sources lates earlies arcs a l .small;
-      })
+  -- leads are small
+  pub held-sweepable : Sweepable web (image .synchronizers)
+  held-sweepable = record {
+    arcs = image .arcs;
+    shaped = held-shape;
+    leads = rw (counts bytes image same .arcs) (λ a l. leads-held s (circuitOf bytes) sources lates earlies arcs a l .small);
+  }
+
+-- launches lie between 0 and the cycle, raised
+pub launch-room : (bytes : List ℕ) → Valid bytes → (image : Image) → image ≡ imageIn bytes → (launches latches : List ℕ) →
+    LoadedNodes (circuitOf bytes) launches latches → Room (image .synchronizers) 265216 (timesOf launches)
+launch-room bytes v image same launches latches nodes =
+    let c = circuitOf bytes in
+    let v' = sound bytes v in
+    rw (counts bytes image same .synchronizers) (record {
+      low = λ i l. le-lower RAISE (getD launches i 0) (rw (nodes .each i l .launch) (omega (ints, span RAISE, launch-range c v' i l .low)));
+      high = λ i l.
+          let h = le-lower (getD launches i 0) (RAISE + 1000000000) (rw (nodes .each i l .launch, lower-raise 1000000000) (omega (ints, launch-range c v' i l .high, v' .cycle))) in
+          omega arith;
+    })

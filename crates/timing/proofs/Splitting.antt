@@ -10,7 +10,6 @@ use borrow.Author.Count.{below-more}
 use Rattle.circuit.specs.Circuit.{Circuit}
 use Rattle.circuit.proofs.Sound.{Sound}
 use Rattle.tables.specs.Net.{timesOf}
-use Rattle.tables.specs.Listing.{Linked, Onward}
 use Rattle.tables.proofs.Filled.{Filled}
 use Rattle.timing.specs.Loaded.{Sorted, Splits, Firsts, LoadedFirst}
 use Rattle.timing.proofs.Storing.{kept, stored, sized}
@@ -76,8 +75,3 @@ module _ (c : Circuit) (v : Sound c) (targets : List ℕ) (t : Filled 2048 (c .t
       inside = λ i a l low high. rw (← t .holds a (omega (arith, within i l))) (enters i a l low high);
       outside = λ i a l k e. split-outside (timesOf targets) (c .arcs) i _ _ (at i l) (next i l) a k (t .holds a k ∙ e);
     }
-
-    -- with chains of the arcs that leave each node, this is where the arcs lead on to
-    pub onward : (source heads links : ℕ → ℕ) → Linked source heads links (c .arcs) →
-        Onward source (timesOf first) (c .synchronizers) (c .arcs) (timesOf targets) heads links
-    onward source heads links k = record { linked = k; nodes = λ a l. rw (t .holds a l) (v .to a l); enters = enters }

@@ -1,36 +1,30 @@
--- The parts put together: loaded tables can be worked with, passes that settled on them give the least departures, and early passes
--- settle where late ones did.
+-- The parts put together: loaded tables can be worked with, passes that settled on them give the least departures, a ring that they show grows, and
+-- early passes settle where late ones did.
 use mathlib.Core.Path.{_≡_, sym}
-use mathlib.Core.Bool.{Bool, true, false}
 use mathlib.Core.List.{List}
 use Prim.Native.Nat.{ℕ, _<_}
+use native.Mathlib.Omega.{arith}
+use native.Mathlib.Decide.{decLt}
 use lib.IntN.{ℤ}
 use Rattle.image.specs.Valid.{Valid, imageIn}
 use Rattle.image.specs.declared.kind.Image.{Image}
 use Rattle.flow.specs.Flow.{Side, late, early}
-use Rattle.flow.specs.Bounds.{Within}
-use Rattle.flow.specs.Walk.{Shown, GrowingRing}
+use Rattle.flow.specs.Walk.{Shown}
 use Rattle.flow.proofs.Settles.{within-calm}
 use Rattle.circuit.specs.Circuit.{circuitOf}
 use Rattle.circuit.specs.Clock.{flow}
 use Rattle.circuit.proofs.Sound.{sound, good}
 use Rattle.circuit.proofs.Ranges.{early-within}
-use Rattle.tables.specs.Net.{Net, timesOf, arcsOf, netOf, Shaped}
-use Rattle.tables.specs.Raise.{Modest}
-use Rattle.tables.specs.Listing.{Onward}
-use Rattle.tables.specs.Passing.{Passable, Climbed, Course}
-use Rattle.tables.proofs.Climbing.{climbed-least, climbed-course, climbed-settles}
-use Rattle.tables.specs.Parents.{ParentsIn}
-use Rattle.tables.proofs.Endless.{parents-in}
+use Rattle.tables.specs.Net.{Net, timesOf, arcsOf, netOf, webOf, Shaped}
+use Rattle.tables.specs.Raise.{Room, Sweepable}
+use Rattle.tables.specs.Passing.{Calm, Ended}
 use Rattle.tables.specs.Models.{Models}
+use Rattle.tables.proofs.Climbing.{ended-least, ended-shown}
 use Rattle.tables.proofs.Models.{lowered}
 use Rattle.timing.specs.Loaded.{Loaded, leadsOf}
 use Rattle.timing.specs.Results.{Writable}
 use Rattle.timing.specs.Told.{Known}
-use Rattle.timing.specs.Ring.{Looped}
-use Rattle.timing.specs.Ring as ring
-use Rattle.timing.proofs.Looping.{climbed-long, looped-shown}
-use Rattle.timing.proofs.Held.{held, held-shape, held-modest}
+use Rattle.timing.proofs.Held.{held, held-shape, held-sweepable, launch-room}
 use Rattle.timing.proofs.Read.{counts}
 use Rattle.timing.proofs.Writing.{writable}
 
@@ -40,15 +34,20 @@ side s image sources lates earlies first launches latches =
     netOf (arcsOf sources (leadsOf s lates earlies) (image .cycle)) first launches latches
 
 module _ (bytes : List ℕ) (v : Valid bytes) (image : Image) (same : image ≡ imageIn bytes)
-    (sources lates earlies first launches latches : List ℕ) (t : Loaded (circuitOf bytes) sources lates earlies first launches latches) where
+    {sources lates earlies first launches latches : List ℕ} (t : Loaded (circuitOf bytes) sources lates earlies first launches latches) where
   pub models : (s : Side) → Models (side s image sources lates earlies first launches latches) (flow s (circuitOf bytes))
   models s = held bytes v image same s sources lates earlies first launches latches (t .nodes) (t .arcs) (t .firsts)
 
-  pub shape : (s : Side) → Shaped (side s image sources lates earlies first launches latches) (image .synchronizers) (image .arcs)
-  shape s = held-shape bytes v image same s sources lates earlies first launches latches (t .nodes) (t .arcs) (t .firsts)
+  pub sweepable : (s : Side) → Sweepable (webOf (arcsOf sources (leadsOf s lates earlies) (image .cycle)) first latches) (image .synchronizers)
+  sweepable s = held-sweepable bytes v image same s sources lates earlies first launches latches (t .nodes) (t .arcs) (t .firsts)
 
-  sizes : (s : Side) → Modest (side s image sources lates earlies first launches latches) (image .synchronizers) (image .arcs)
-  sizes s = held-modest bytes v image same s sources lates earlies first launches latches (t .nodes) (t .arcs) (t .firsts)
+  pub shape : (s : Side) → Shaped (side s image sources lates earlies first launches latches) (image .synchronizers) (image .arcs)
+  shape s =
+      let h = held-shape bytes v image same s sources lates earlies first launches latches (t .nodes) (t .arcs) (t .firsts) in
+      record { nodes = h .nodes; count = h .count; sources = h .sources; rises = h .rises; ends = h .ends; cycle = h .cycle }
+
+  pub room : Room (image .synchronizers) 265216 (timesOf launches)
+  room = launch-room bytes v image same launches latches (t .nodes)
 
   nodes : (s : Side) → flow s (circuitOf bytes) .nodes ≡ image .synchronizers
   nodes s = sym (counts bytes image same .synchronizers)
@@ -61,52 +60,29 @@ module _ (bytes : List ℕ) (v : Valid bytes) (image : Image) (same : image ≡ 
       writable bytes image sources lates earlies first launches latches D E v same (models late) (models early)
       (rw (n .synchronizers) (k .ranged)) (rw (n .synchronizers) (h .ranged))
 
-  -- departures raised in place
-  module _ (s : Side) (target heads links : ℕ → ℕ) where
-    abbrev net : Net
-    net = side s image sources lates earlies first launches latches
+  -- departures raised in place, from the launches on
+  module _ (s : Side) {D : List ℕ} {count : ℕ} {gain : ℤ} {before after : List ℕ}
+      (c : Ended s (webOf (arcsOf sources (leadsOf s lates earlies) (image .cycle)) first latches) (image .synchronizers) (timesOf launches) D count gain before after) where
+    -- no ring is counted
+    pub risen-known : count ≡ 0 → Calm s (flow s (circuitOf bytes)) → Known s (circuitOf bytes) D × (after ≡ before)
+    risen-known e calm =
+        let h = ended-least s _ (image .synchronizers) (sweepable s) (timesOf launches) (flow s (circuitOf bytes)) (good s (circuitOf bytes) (sound bytes v)) (models s) (nodes s) c e calm in
+        (record { least = h .0; ranged = rw (← counts bytes image same .synchronizers) (h .1) }, h .2)
 
-    pub passable : Onward (timesOf sources) (timesOf first) (image .synchronizers) (image .arcs) target heads links →
-        Passable s net (image .synchronizers) (image .arcs) target heads links
-    passable o = record { shaped = shape s; modest = sizes s; onward = o }
+    -- one is: it grows
+    pub risen-ring : 0 < count → Shown (flow s (circuitOf bytes)) count gain before after
+    risen-ring = ended-shown s _ (image .synchronizers) (sweepable s) (timesOf launches) (flow s (circuitOf bytes)) (good s (circuitOf bytes) (sound bytes v)) (models s) (nodes s) c
 
-    module _ (D P : List ℕ) (u : ℕ) {b : Bool} (c : Climbed s net (image .synchronizers) (timesOf D) (timesOf P) u b) where
-      pub climbed-known : b ≡ true → Known s (circuitOf bytes) D
-      climbed-known e =
-          let h = climbed-least s net (image .synchronizers) (image .arcs) (shape s) (sizes s) (flow s (circuitOf bytes)) (good s (circuitOf bytes) (sound bytes v)) (models s) (nodes s) (timesOf D) (timesOf P) u c e in
-          record { least = h .0; ranged = rw (← counts bytes image same .synchronizers) (h .1) }
+  -- where late departures fit no ring grows, late or early
+  pub calm : (E : List ℕ) → Known late (circuitOf bytes) E → Calm early (flow early (circuitOf bytes))
+  calm E k = within-calm (flow early (circuitOf bytes)) (flow late (circuitOf bytes)) (good early (circuitOf bytes) (sound bytes v)) (good late (circuitOf bytes) (sound bytes v))
+      (early-within (circuitOf bytes) (sound bytes v)) (lowered (timesOf E)) (k .least .fits)
 
-      -- without a growing ring nothing is left to raise
-      pub climbed-done : (GrowingRing (flow s (circuitOf bytes)) → ⊥) → b ≡ true
-      climbed-done = climbed-settles s net (image .synchronizers) (image .arcs) (shape s) (sizes s) (flow s (circuitOf bytes)) (good s (circuitOf bytes) (sound bytes v)) (models s) (nodes s) (timesOf D) (timesOf P) u c
-
-      -- where late departures fit, the passes of both sides settle
-      pub climbed-calm : (E : List ℕ) → Known late (circuitOf bytes) E → Within late (flow s (circuitOf bytes)) (flow late (circuitOf bytes)) → b ≡ true
-      climbed-calm E k w = climbed-done (within-calm (flow s (circuitOf bytes)) (flow late (circuitOf bytes)) (good s (circuitOf bytes) (sound bytes v)) (good late (circuitOf bytes) (sound bytes v)) w (lowered (timesOf E)) (k .least .fits))
-
-  -- early passes settle where late ones did
-  pub climbed-early : (target heads links : ℕ → ℕ) (D E P : List ℕ) (u : ℕ) → Known late (circuitOf bytes) D → {b : Bool} →
-      Climbed early (side early image sources lates earlies first launches latches) (image .synchronizers) (timesOf E) (timesOf P) u b →
-      Known early (circuitOf bytes) E
-  climbed-early target heads links D E P u k c =
-      climbed-known early target heads links E P u c (climbed-calm early target heads links E P u c D k (early-within (circuitOf bytes) (sound bytes v)))
-
-  -- a ring that late passes show
-  module _ (target heads links : ℕ → ℕ) (D P : List ℕ) (u : ℕ) {b : Bool}
-      (c : Climbed late (side late image sources lates earlies first launches latches) (image .synchronizers) (timesOf D) (timesOf P) u b) (e : b ≡ false) where
-    moved : Course late (side late image sources lates earlies first launches latches) (image .synchronizers) (timesOf D) (timesOf P) 262144 × (u < image .synchronizers)
-    moved = climbed-course late (side late image sources lates earlies first launches latches) (image .synchronizers) (image .arcs) (shape late) (sizes late) (flow late (circuitOf bytes)) (good late (circuitOf bytes) (sound bytes v)) (models late) (nodes late) (timesOf D) (timesOf P) u c e
-
-    pub climbed-node : u < image .synchronizers
-    climbed-node = moved .1
-
-    pub climbed-parents : ParentsIn (timesOf sources) (timesOf P) (timesOf launches) (timesOf D) (image .synchronizers)
-    climbed-parents = parents-in (side late image sources lates earlies first launches latches) (image .synchronizers) (image .arcs) (shape late) (timesOf D) (timesOf P) (moved .0 .stamps) (moved .0 .raises) (moved .0 .parented)
-
-    pub climbed-full : (d : ℕ) (ns tr : ℕ → ℕ) → ring.Climbed (timesOf sources) (timesOf P) (timesOf launches) (timesOf D) (image .synchronizers) u d ns tr → d ≡ image .synchronizers
-    climbed-full = climbed-long (side late image sources lates earlies first launches latches) (image .synchronizers) (image .arcs) (shape late) (sizes late) (flow late (circuitOf bytes)) (good late (circuitOf bytes) (sound bytes v)) (models late) (nodes late) (timesOf D) (timesOf P) (moved .0) u c e
-
-    pub climbed-ring : (count : ℕ) (total : ℤ) (before after : List ℕ) →
-        Looped (timesOf sources) (timesOf P) (timesOf launches) (timesOf D) (timesOf lates) (image .cycle) (image .synchronizers) u count total before after →
-        Shown (flow late (circuitOf bytes)) count total before after
-    climbed-ring = looped-shown (side late image sources lates earlies first launches latches) (image .synchronizers) (image .arcs) (shape late) (sizes late) (flow late (circuitOf bytes)) (good late (circuitOf bytes) (sound bytes v)) (models late) (nodes late) (timesOf D) (timesOf P) (moved .0) u
+  -- so the early passes settle
+  pub risen-early : {D E : List ℕ} → Known late (circuitOf bytes) D → {count : ℕ} {gain : ℤ} {before after : List ℕ} →
+      Ended early (webOf (arcsOf sources earlies (image .cycle)) first latches) (image .synchronizers) (timesOf launches) E count gain before after →
+      Known early (circuitOf bytes) E × (after ≡ before)
+  risen-early {D} {E} k {count} c = risen-known early c none (calm D k)
+    where
+      none : count ≡ 0
+      none = elim (decLt 0 count) [ yes h ↦ absurd (calm D k (risen-ring early c h .grows)) | no h ↦ omega arith ]

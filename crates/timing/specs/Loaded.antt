@@ -85,11 +85,6 @@ pub record Sized (sources lates earlies first launches latches : List ℕ) : Typ
   pub firsts : length first ≡ 513
   pub nodes : (length launches ≡ 512) × (length latches ≡ 512)
 
--- tables that have not been filled yet
-pub record Blank (target heads links : List ℕ) : Type 0 where
-  pub long : (length heads ≡ 512) × (length links ≡ 2048) × (length target ≡ 2048)
-  pub empty : (i : ℕ) → getD heads i 0 ≡ 0
-
 pub record Loaded (c : Circuit) (sources lates earlies first launches latches : List ℕ) : Type 0 where
   pub nodes : LoadedNodes c launches latches
   pub arcs : LoadedArcs c sources lates earlies

@@ -50,26 +50,41 @@ pub record Turned (node arc lead : ℕ → ℕ) (cycle l count : ℕ) (total : �
   pub gains : total ≡ subℕ (leads lead (turned arc first low second)) ((second - first) * cycle)
   pub written : after ≡ turned arc first low second ++ drop (second - first) before
 
--- a walk back over parents from u: d arcs, each from a node that departs after its launch
-pub record Climbs (source parents launch departs : ℕ → ℕ) (l u d : ℕ) (nodes trail : ℕ → ℕ) (node : ℕ) : Type 0 where
+-- a walk back over parents from u: d arcs, each from a node that departs after its base
+pub record Climbs (source parents base departs : ℕ → ℕ) (l u d : ℕ) (nodes trail : ℕ → ℕ) (node : ℕ) : Type 0 where
   pub few : d ≤ l
   pub here : node < l
   pub start : d ≡ 0 → node ≡ u
   pub begin : 0 < d → nodes 0 ≡ u
   pub small : (x : ℕ) → x < d → nodes x < l
-  pub raised : (x : ℕ) → x < d → departs (nodes x) ≡ launch (nodes x) → ⊥
+  pub raised : (x : ℕ) → x < d → departs (nodes x) ≡ base (nodes x) → ⊥
   pub arc : (x : ℕ) → x < d → trail x ≡ parents (nodes x)
   pub onto : (x : ℕ) → suc x < d → source (trail x) ≡ nodes (suc x)
   pub last : (x : ℕ) → suc x ≡ d → source (trail x) ≡ node
 
--- it came to an end: after l arcs, or at a node that departs at its launch
-pub record Climbed (source parents launch departs : ℕ → ℕ) (l u d : ℕ) (nodes trail : ℕ → ℕ) : Type 0 where
-  pub walk : Climbs source parents launch departs l u d nodes trail (nodes d)
-  pub ends : d < l → departs (nodes d) ≡ launch (nodes d)
+-- it came to an end: after l arcs, or at a node that departs at its base
+pub record Climbed (source parents base departs : ℕ → ℕ) (l u d : ℕ) (nodes trail : ℕ → ℕ) : Type 0 where
+  pub walk : Climbs source parents base departs l u d nodes trail (nodes d)
+  pub ends : d < l → departs (nodes d) ≡ base (nodes d)
 
 -- the walk of l arcs back from u, and its first closed stretch written out
-pub record Looped (source parents launch departs lead : ℕ → ℕ) (cycle l u count : ℕ) (total : ℤ) (before after : List ℕ) : Type 0 where
+pub record Looped (source parents base departs lead : ℕ → ℕ) (cycle l u count : ℕ) (total : ℤ) (before after : List ℕ) : Type 0 where
   pub nodes : ℕ → ℕ
   pub trail : ℕ → ℕ
-  pub walk : Climbs source parents launch departs l u l nodes trail (nodes l)
+  pub walk : Climbs source parents base departs l u l nodes trail (nodes l)
   pub turned : Turned nodes trail lead cycle l count total before after
+
+-- the walk comes to a node that departs at its base
+pub record Short (source parents base departs : ℕ → ℕ) (l u : ℕ) : Type 0 where
+  pub length : ℕ
+  pub nodes : ℕ → ℕ
+  pub trail : ℕ → ℕ
+  pub walk : Climbed source parents base departs l u length nodes trail
+  pub ends : length < l
+
+-- what the search after pass n came to
+pub data Closed (source parents base departs lead : ℕ → ℕ) (cycle l u n : ℕ) : ℕ → ℤ → List ℕ → List ℕ → Type 0 where
+  -- no ring, or it was not asked; after pass l it is
+  short : {gain : ℤ} {arcs : List ℕ} → (n ≡ l → Short source parents base departs l u) → Closed source parents base departs lead cycle l u n 0 gain arcs arcs
+  ring : {count : ℕ} {gain : ℤ} {before after : List ℕ} → Looped source parents base departs lead cycle l u count gain before after →
+      Closed source parents base departs lead cycle l u n count gain before after

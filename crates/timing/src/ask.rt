@@ -4,8 +4,6 @@ ghost use Rattle.image.specs.Checks.{checkOf};
 ghost use Rattle.circuit.specs.Circuit.{circuitOf};
 ghost use Rattle.image.specs.Valid.{imageIn};
 ghost use Rattle.image.specs.declared.checks.Checked.the-variants as check;
-ghost use Rattle.tables.specs.Net.{timesOf};
-ghost use Rattle.tables.specs.Listing.{Onward};
 ghost use Rattle.timing.specs.Loaded.{Loaded};
 ghost use Rattle.timing.specs.Paths.{Asked, PathCall};
 use crate::call::load;
@@ -31,16 +29,12 @@ fn seek(
     first: &[u16; 513],
     launch: &[u64; 512],
     latch: &[u8; 512],
-    target: &[u16; 2048],
-    heads: &[u16; 512],
-    links: &[u16; 2048],
     i: usize,
     arcs: &mut [u32],
 ) -> Way
     requires { ⌜ Asked (now bytes) i (now arcs) ⌝ }
     requires { ⌜ image ≡ imageIn (now bytes) ⌝ }
     requires { ⌜ Loaded (circuitOf (now bytes)) (now source) (now late) (now early) (now first) (now launch) (now latch) ⌝ }
-    requires { ⌜ Onward (timesOf (now source)) (timesOf (now first)) (image .synchronizers) (image .arcs) (timesOf (now target)) (timesOf (now heads)) (timesOf (now links)) ⌝ }
     ensures { λ r. ⌜ PathCall (now (bytes .entry)) i (now (arcs .entry)) r (now (arcs .exit)) ⌝ }
 {
     if first[i] == first[i + 1] {
@@ -50,24 +44,19 @@ fn seek(
     let l = image.synchronizers as usize;
     let m = image.arcs as usize;
     let mut ends = *launch;
-    let mut roots = [0u16; 512];
-    let later = rise(
+    let mut ring = [0u32; 512];
+    let shown = rise(
         true,
         source,
         late,
         cycle,
         first,
-        launch,
         latch,
-        heads,
-        links,
-        target,
         l,
-        m,
         &mut ends,
-        &mut roots,
+        &mut ring,
     );
-    if !later.done {
+    if shown.count > 0 {
         return Way::Refused(14, 0);
     }
     let ranks = rank_all(source, late, cycle, first, launch, latch, &ends, l, m);
@@ -87,9 +76,6 @@ fn open(bytes: &[u8], image: Image, i: usize, arcs: &mut [u32]) -> Way
     let mut first = [0u16; 513];
     let mut launch = [0u64; 512];
     let mut latch = [0u8; 512];
-    let mut target = [0u16; 2048];
-    let mut heads = [0u16; 512];
-    let mut links = [0u16; 2048];
     load(
         bytes,
         image,
@@ -99,9 +85,6 @@ fn open(bytes: &[u8], image: Image, i: usize, arcs: &mut [u32]) -> Way
         &mut first,
         &mut launch,
         &mut latch,
-        &mut target,
-        &mut heads,
-        &mut links,
     );
     seek(
         bytes,
@@ -112,9 +95,6 @@ fn open(bytes: &[u8], image: Image, i: usize, arcs: &mut [u32]) -> Way
         &first,
         &launch,
         &latch,
-        &target,
-        &heads,
-        &links,
         i,
         arcs,
     )

@@ -1,24 +1,18 @@
 // The call that everything is for.
 ghost use mathlib.Core.Path.{_≡_};
-ghost use Prim.Native.Nat.{_*_, _≤_};
-ghost use lib.ListN.{length};
 ghost use Rattle.flow.specs.Flow as side;
 ghost use Rattle.image.specs.Checks.{checkOf};
 ghost use Rattle.circuit.specs.Circuit.{circuitOf};
 ghost use Rattle.image.specs.Valid.{Valid, imageIn};
 ghost use Rattle.image.specs.declared.checks.Checked.the-variants as check;
-ghost use Rattle.tables.specs.Net.{timesOf};
-ghost use Rattle.tables.specs.Listing.{Onward};
-ghost use Rattle.timing.specs.Loaded.{Sized, Blank, Loaded};
+ghost use Rattle.timing.specs.Loaded.{Sized, Loaded};
 ghost use Rattle.timing.specs.Promise.{Served, Timing};
 ghost use Rattle.timing.specs.Told.{Known, Told};
 use crate::climb::rise;
 use crate::load::load_first;
 use crate::load::load_records;
-use crate::onward::link;
 use crate::results::Missed;
 use crate::results::write_results;
-use crate::ring::close;
 use image::Checked;
 use image::Image;
 
@@ -40,24 +34,29 @@ pub(crate) fn load(
     first: &mut [u16; 513],
     launch: &mut [u64; 512],
     latch: &mut [u8; 512],
-    target: &mut [u16; 2048],
-    heads: &mut [u16; 512],
-    links: &mut [u16; 2048],
 )
     requires { ⌜ Valid (now bytes) × (image ≡ imageIn (now bytes)) ⌝ }
     requires { ⌜ Sized (now source) (now late) (now early) (now first) (now launch) (now latch) ⌝ }
-    requires { ⌜ Blank (now target) (now heads) (now links) ⌝ }
     ensures { λ _. ⌜ Loaded (circuitOf (now (bytes .entry))) (now (source .exit)) (now (late .exit)) (now (early .exit)) (now (first .exit)) (now (launch .exit)) (now (latch .exit)) ⌝ }
-    ensures { λ _. ⌜ Onward (timesOf (now (source .exit))) (timesOf (now (first .exit))) (image .synchronizers) (image .arcs) (timesOf (now (target .exit))) (timesOf (now (heads .exit))) (timesOf (now (links .exit))) ⌝ }
 {
-    load_records(bytes, image, source, late, early, launch, latch, target);
+    let mut target = [0u16; 2048];
+    load_records(
+        bytes,
+        image,
+        source,
+        late,
+        early,
+        launch,
+        latch,
+        &mut target,
+    );
     let l = image.synchronizers as usize;
     let m = image.arcs as usize;
-    load_first(target, l, m, first);
-    link(source, m, heads, links);
+    load_first(&target, l, m, first);
 }
 
-// Where the late departures are known: works the early ones out, and writes the results.
+// Where the late departures are known: works the early ones out, from the launches on, and writes the results. The arc buffer is lent for a ring, and
+// stays: where late departures fit, early ones do.
 fn tell(
     bytes: &[u8],
     image: Image,
@@ -65,38 +64,29 @@ fn tell(
     late: &[u32; 2048],
     early: &[u32; 2048],
     first: &[u16; 513],
-    launch: &[u64; 512],
+    launch: &mut [u64; 512],
     latch: &[u8; 512],
-    target: &[u16; 2048],
-    heads: &[u16; 512],
-    links: &[u16; 2048],
     later: &[u64; 512],
     results: &mut [i64],
+    arcs: &mut [u32],
 ) -> Missed
-    requires { ⌜ Valid (now bytes) × (image ≡ imageIn (now bytes)) ⌝ }
+    requires { ⌜ Served (now bytes) (now results) (now arcs) × (image ≡ imageIn (now bytes)) ⌝ }
     requires { ⌜ Loaded (circuitOf (now bytes)) (now source) (now late) (now early) (now first) (now launch) (now latch) ⌝ }
-    requires { ⌜ Onward (timesOf (now source)) (timesOf (now first)) (image .synchronizers) (image .arcs) (timesOf (now target)) (timesOf (now heads)) (timesOf (now links)) ⌝ }
     requires { ⌜ Known side.late (circuitOf (now bytes)) (now later) ⌝ }
-    requires { ⌜ 6 * image .synchronizers ≤ length (now results) ⌝ }
     ensures { λ r. ⌜ Told (circuitOf (now (bytes .entry))) (now (later .entry)) (now (results .entry)) (now (results .exit)) r ⌝ }
+    ensures { λ r. ⌜ now (arcs .exit) ≡ now (arcs .entry) ⌝ }
 {
-    let mut starts = *launch;
-    let mut roots = [0u16; 512];
+    let l = image.synchronizers as usize;
     rise(
         false,
         source,
         early,
         image.cycle,
         first,
-        launch,
         latch,
-        heads,
-        links,
-        target,
-        image.synchronizers as usize,
-        image.arcs as usize,
-        &mut starts,
-        &mut roots,
+        l,
+        launch,
+        arcs,
     );
     write_results(
         bytes,
@@ -106,7 +96,7 @@ fn tell(
         early,
         first,
         later,
-        &starts,
+        launch,
         results,
     )
 }
@@ -119,54 +109,30 @@ fn decide(
     late: &[u32; 2048],
     early: &[u32; 2048],
     first: &[u16; 513],
-    launch: &[u64; 512],
+    launch: &mut [u64; 512],
     latch: &[u8; 512],
-    target: &[u16; 2048],
-    heads: &[u16; 512],
-    links: &[u16; 2048],
     results: &mut [i64],
     arcs: &mut [u32],
 ) -> Answer
-    requires { ⌜ Served (now bytes) (now results) (now arcs) ⌝ }
-    requires { ⌜ image ≡ imageIn (now bytes) ⌝ }
+    requires { ⌜ Served (now bytes) (now results) (now arcs) × (image ≡ imageIn (now bytes)) ⌝ }
     requires { ⌜ Loaded (circuitOf (now bytes)) (now source) (now late) (now early) (now first) (now launch) (now latch) ⌝ }
-    requires { ⌜ Onward (timesOf (now source)) (timesOf (now first)) (image .synchronizers) (image .arcs) (timesOf (now target)) (timesOf (now heads)) (timesOf (now links)) ⌝ }
     ensures { λ r. ⌜ Timing (now (bytes .entry)) (now (results .entry)) (now (arcs .entry)) r (now (results .exit)) (now (arcs .exit)) ⌝ }
 {
-    let cycle = image.cycle;
     let l = image.synchronizers as usize;
-    let m = image.arcs as usize;
     let mut ends = *launch;
-    let mut roots = [0u16; 512];
-    let later = rise(
+    let ring = rise(
         true,
         source,
         late,
-        cycle,
+        image.cycle,
         first,
-        launch,
         latch,
-        heads,
-        links,
-        target,
         l,
-        m,
         &mut ends,
-        &mut roots,
+        arcs,
     );
-    if !later.done {
-        let shown = close(
-            source,
-            late,
-            cycle,
-            launch,
-            &ends,
-            &roots,
-            l,
-            later.last,
-            arcs,
-        );
-        return Answer::Growing(shown.count, shown.gain);
+    if ring.count > 0 {
+        return Answer::Growing(ring.count, ring.gain);
     }
     let missed = tell(
         bytes,
@@ -177,11 +143,9 @@ fn decide(
         first,
         launch,
         latch,
-        target,
-        heads,
-        links,
         &ends,
         results,
+        arcs,
     );
     Answer::Timed(missed.setups, missed.holds)
 }
@@ -198,9 +162,6 @@ fn work(bytes: &[u8], image: Image, results: &mut [i64], arcs: &mut [u32]) -> An
     let mut first = [0u16; 513];
     let mut launch = [0u64; 512];
     let mut latch = [0u8; 512];
-    let mut target = [0u16; 2048];
-    let mut heads = [0u16; 512];
-    let mut links = [0u16; 2048];
     load(
         bytes,
         image,
@@ -210,9 +171,6 @@ fn work(bytes: &[u8], image: Image, results: &mut [i64], arcs: &mut [u32]) -> An
         &mut first,
         &mut launch,
         &mut latch,
-        &mut target,
-        &mut heads,
-        &mut links,
     );
     decide(
         bytes,
@@ -221,11 +179,8 @@ fn work(bytes: &[u8], image: Image, results: &mut [i64], arcs: &mut [u32]) -> An
         &late,
         &early,
         &first,
-        &launch,
+        &mut launch,
         &latch,
-        &target,
-        &heads,
-        &links,
         results,
         arcs,
     )

@@ -4,14 +4,13 @@ mod arrive;
 mod ask;
 mod call;
 mod climb;
-mod lists;
 mod load;
-mod onward;
 mod order;
 mod ranks;
 mod results;
 mod ring;
 mod signed;
+mod sweeps;
 mod trail;
 
 pub use ask::Way;

@@ -6,14 +6,28 @@ ghost use mathlib.Core.Path.{_≡_};
 ghost use Prim.Native.Nat.{ℕ, _+_, _≤_, _<_};
 ghost use lib.ListN.{length};
 ghost use Rattle.tables.specs.Net.{timesOf};
-ghost use Rattle.tables.specs.Listing.{Listed, fromEnd, Enlisted, Order, Stacked};
-ghost use Rattle.tables.proofs.Filled.{Filled};
+ghost use Rattle.tables.specs.Listing.{Listed, Enlisted, Order, Stacked, Fed};
 use crate::arrive::index;
 use crate::arrive::narrow;
-use crate::lists::enlist;
 
 // More steps than a walk has: it goes over each arc once, and leaves each synchronizer once.
 const STEPS: usize = 4096;
+
+// Lists a synchronizer, unless it is listed already. Says how many are listed.
+fn enlist(i: u16, l: usize, count: usize, marks: &mut [u8; 512], list: &mut [u16; 512]) -> usize
+    requires { ⌜ (i < l) × (l ≤ 512) ⌝ }
+    requires { ⌜ Enlisted l (now marks) (now list) count ⌝ }
+    ensures { λ r. ⌜ Enlisted l (now (marks .exit)) (now (list .exit)) r ⌝ }
+    ensures { λ r. ⌜ (Listed (timesOf (now (list .exit))) r i) ⌝ }
+    ensures { λ r. ⌜ ((j : ℕ) → Listed (timesOf (now (list .entry))) count j → Listed (timesOf (now (list .exit))) r j) ⌝ }
+{
+    if marks[index(i)] == 1 {
+        return count;
+    }
+    marks[index(i)] = 1;
+    list[count] = i;
+    count + 1
+}
 
 // Stacks a synchronizer that the walk has not seen. Says how high the stack is.
 fn push(
@@ -60,21 +74,20 @@ fn step(
     first: &[u16; 513],
     latch: &[u8; 512],
     l: usize,
-    m: usize,
     depth: usize,
     seen: &mut [u8; 512],
     stack: &mut [u16; 512],
     ahead: &mut [u16; 512],
     count: usize,
-    marks: &mut [u16; 512],
+    marks: &mut [u8; 512],
     list: &mut [u16; 512],
 ) -> Spot
-    requires { ⌜ (l ≤ 512) × (m ≤ 2048) × (0 < depth) ⌝ }
-    requires { ⌜ ((a : ℕ) → a < m → timesOf (now source) a < l) × ((i : ℕ) → i < l → timesOf (now first) (i + 1) ≤ m) ⌝ }
+    requires { ⌜ (l ≤ 512) × (0 < depth) ⌝ }
+    requires { ⌜ Fed (timesOf (now source)) (timesOf (now first)) l ⌝ }
     requires { ⌜ Stacked l (now stack) depth ⌝ }
-    requires { ⌜ Enlisted l 1 (now marks) (now list) count ⌝ }
+    requires { ⌜ Enlisted l (now marks) (now list) count ⌝ }
     ensures { λ r. ⌜ Stacked l (now (stack .exit)) (r .depth) ⌝ }
-    ensures { λ r. ⌜ Enlisted l 1 (now (marks .exit)) (now (list .exit)) (r .count) ⌝ }
+    ensures { λ r. ⌜ Enlisted l (now (marks .exit)) (now (list .exit)) (r .count) ⌝ }
     ensures { λ r. ⌜ ((j : ℕ) → Listed (timesOf (now (list .entry))) count j → Listed (timesOf (now (list .exit))) (r .count) j) ⌝ }
 {
     let top = depth - 1;
@@ -90,7 +103,7 @@ fn step(
     }
     Spot {
         depth: top,
-        count: enlist(1, i, l, count, marks, list),
+        count: enlist(i, l, count, marks, list),
     }
 }
 
@@ -100,21 +113,20 @@ fn explore(
     first: &[u16; 513],
     latch: &[u8; 512],
     l: usize,
-    m: usize,
     i: u16,
     seen: &mut [u8; 512],
     stack: &mut [u16; 512],
     ahead: &mut [u16; 512],
     count: usize,
-    marks: &mut [u16; 512],
+    marks: &mut [u8; 512],
     list: &mut [u16; 512],
 ) -> usize
-    requires { ⌜ (l ≤ 512) × (m ≤ 2048) × (i < l) ⌝ }
-    requires { ⌜ ((a : ℕ) → a < m → timesOf (now source) a < l) × ((i : ℕ) → i < l → timesOf (now first) (i + 1) ≤ m) ⌝ }
+    requires { ⌜ (l ≤ 512) × (i < l) ⌝ }
+    requires { ⌜ Fed (timesOf (now source)) (timesOf (now first)) l ⌝ }
     requires { ⌜ length (now stack) ≡ 512 ⌝ }
-    requires { ⌜ Enlisted l 1 (now marks) (now list) count ⌝ }
+    requires { ⌜ Enlisted l (now marks) (now list) count ⌝ }
     ensures { λ r. ⌜ length (now (stack .exit)) ≡ 512 ⌝ }
-    ensures { λ r. ⌜ Enlisted l 1 (now (marks .exit)) (now (list .exit)) r ⌝ }
+    ensures { λ r. ⌜ Enlisted l (now (marks .exit)) (now (list .exit)) r ⌝ }
     ensures { λ r. ⌜ ((j : ℕ) → Listed (timesOf (now (list .entry))) count j → Listed (timesOf (now (list .exit))) r j) ⌝ }
 {
     let mut depth = push(first, l, i, 0, seen, stack, ahead);
@@ -129,7 +141,6 @@ fn explore(
             first,
             latch,
             l,
-            m,
             depth,
             seen,
             stack,
@@ -145,30 +156,16 @@ fn explore(
     listed
 }
 
-// The list from its end: so a pass takes it.
-fn turn_over(list: &[u16; 512], l: usize, order: &mut [u16; 512])
-    requires { ⌜ l ≤ 512 ⌝ }
-    requires { ⌜ length (now order) ≡ 512 ⌝ }
-    ensures { λ _. ⌜ Filled 512 (fromEnd (timesOf (now (list .entry))) l) (now (order .exit)) l ⌝ }
-{
-    let mut x: usize = 0;
-    while x < l {
-        order[x] = list[l - 1 - x];
-        x += 1;
-    }
-}
-
 // Lists all l synchronizers.
 pub(crate) fn arrange(
     source: &[u16; 2048],
     first: &[u16; 513],
     latch: &[u8; 512],
     l: usize,
-    m: usize,
     order: &mut [u16; 512],
 )
-    requires { ⌜ (l ≤ 512) × (m ≤ 2048) ⌝ }
-    requires { ⌜ ((a : ℕ) → a < m → timesOf (now source) a < l) × ((i : ℕ) → i < l → timesOf (now first) (i + 1) ≤ m) ⌝ }
+    requires { ⌜ l ≤ 512 ⌝ }
+    requires { ⌜ Fed (timesOf (now source)) (timesOf (now first)) l ⌝ }
     requires { ⌜ length (now order) ≡ 512 ⌝ }
     ensures { λ _. ⌜ length (now (order .exit)) ≡ 512 ⌝ }
     ensures { λ _. ⌜ Order l (timesOf (now (order .exit))) ⌝ }
@@ -176,8 +173,7 @@ pub(crate) fn arrange(
     let mut seen = [0u8; 512];
     let mut stack = [0u16; 512];
     let mut ahead = [0u16; 512];
-    let mut marks = [0u16; 512];
-    let mut list = [0u16; 512];
+    let mut marks = [0u8; 512];
     let mut count: usize = 0;
     let mut i: usize = 0;
     while i < l {
@@ -187,17 +183,15 @@ pub(crate) fn arrange(
             first,
             latch,
             l,
-            m,
             node,
             &mut seen,
             &mut stack,
             &mut ahead,
             count,
             &mut marks,
-            &mut list,
+            order,
         );
-        count = enlist(1, node, l, listed, &mut marks, &mut list);
+        count = enlist(node, l, listed, &mut marks, order);
         i += 1;
     }
-    turn_over(&list, l, order);
 }

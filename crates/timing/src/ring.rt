@@ -1,13 +1,15 @@
-// A growing ring. Each raised synchronizer has a parent, the arc that raised it last. From one that the last pass raised a walk goes back over
-// parents. It passes more places than there are synchronizers, so one comes up again: the arcs between are the ring.
+// A growing ring. Each synchronizer that was raised since the base has a parent, the arc that raised it last. From one that the last pass raised a walk
+// goes back over parents. Where it comes to no base it passes more places than there are synchronizers, so one comes up again: the arcs between are the ring.
 ghost use mathlib.Core.Path.{_≡_};
+ghost use mathlib.Core.Bool.{false};
 ghost use mathlib.Core.List.{_++_};
+ghost use mathlib.Core.Logic.{_≢_};
 ghost use Prim.Native.Nat.{ℕ, _+_, _-_, _*_, _≤_, _<_};
 ghost use lib.IntN.{subℕ};
 ghost use lib.ListN.{length, getD, drop};
 ghost use Rattle.tables.specs.Net.{timesOf};
 ghost use Rattle.tables.specs.Parents.{ParentsIn};
-ghost use Rattle.timing.specs.Ring.{Repeats, Lowest, routeBack, written, leads, turned, Turned, Climbed, Looped};
+ghost use Rattle.timing.specs.Ring.{Repeats, Lowest, routeBack, written, leads, turned, Turned, Climbed, Closed};
 use crate::arrive::counted;
 use crate::arrive::index;
 use crate::arrive::narrow;
@@ -161,10 +163,10 @@ fn show(
 }
 
 // The walk back over parents, from synchronizer u. Says over how many arcs it went: l, or fewer where it came to one that departs at its
-// launch.
+// base.
 fn follow(
     source: &[u16; 2048],
-    launch: &[u64; 512],
+    base: &[u64; 512],
     departs: &[u64; 512],
     parents: &[u16; 512],
     l: usize,
@@ -174,15 +176,15 @@ fn follow(
 ) -> usize
     requires { ⌜ (l ≤ 512) × (u < l) ⌝ }
     requires { ⌜ (length (now nodes) ≡ 513) × (length (now trail) ≡ 512) ⌝ }
-    requires { ⌜ ParentsIn (timesOf (now source)) (timesOf (now parents)) (timesOf (now launch)) (timesOf (now departs)) l ⌝ }
-    ensures { λ r. ⌜ Climbed (timesOf (now (source .entry))) (timesOf (now (parents .entry))) (timesOf (now (launch .entry))) (timesOf (now (departs .entry))) l u r (timesOf (now (nodes .exit))) (timesOf (now (trail .exit))) ⌝ }
+    requires { ⌜ ParentsIn (timesOf (now source)) (timesOf (now parents)) (timesOf (now base)) (timesOf (now departs)) l ⌝ }
+    ensures { λ r. ⌜ Climbed (timesOf (now (source .entry))) (timesOf (now (parents .entry))) (timesOf (now (base .entry))) (timesOf (now (departs .entry))) l u r (timesOf (now (nodes .exit))) (timesOf (now (trail .exit))) ⌝ }
 {
     let mut node = narrow(u);
     let mut d: usize = 0;
     while d < l {
         nodes[d] = node;
         let i = index(node);
-        if departs[i] == launch[i] {
+        if departs[i] == base[i] {
             return d;
         }
         let arc = parents[i];
@@ -194,35 +196,43 @@ fn follow(
     d
 }
 
-// A growing ring, where the walk back over parents from synchronizer u never comes to a launch: its arcs into the buffer, from the
-// lowest-numbered synchronizer on.
+// Is a ring looked for after pass n? After passes 1, 2, 4, 8 and so on, so that it costs little where there is none, and after pass l.
+fn due(n: usize, l: usize) -> bool
+    requires { ⌜ 0 < n ⌝ }
+    ensures { λ r. ⌜ (r ≡ false → n ≢ l) ⌝ }
+{
+    if n == l {
+        return true;
+    }
+    n & (n - 1) == 0
+}
+
+// After pass n, which raised u: is a ring closed? It is where the walk back over parents from u comes to no base in l steps. Then the ring's arcs go into
+// the buffer, from the lowest-numbered synchronizer on.
 pub(crate) fn close(
+    n: usize,
     source: &[u16; 2048],
     lead: &[u32; 2048],
     cycle: u32,
-    launch: &[u64; 512],
+    base: &[u64; 512],
     departs: &[u64; 512],
     parents: &[u16; 512],
     l: usize,
     u: usize,
     arcs: &mut [u32],
 ) -> Ring
-    requires { ⌜ (l ≤ 512) × (u < l) × (l ≤ length (now arcs)) ⌝ }
-    requires { ⌜ ParentsIn (timesOf (now source)) (timesOf (now parents)) (timesOf (now launch)) (timesOf (now departs)) l ⌝ }
-    requires { ⌜ ((d : ℕ) (nodes trail : ℕ → ℕ) → Climbed (timesOf (now source)) (timesOf (now parents)) (timesOf (now launch)) (timesOf (now departs)) l u d nodes trail → d ≡ l) ⌝ }
-    ensures { λ r. ⌜ Looped (timesOf (now (source .entry))) (timesOf (now (parents .entry))) (timesOf (now (launch .entry))) (timesOf (now (departs .entry))) (timesOf (now (lead .entry))) cycle l u (r .count) (r .gain) (now (arcs .entry)) (now (arcs .exit)) ⌝ }
+    requires { ⌜ (0 < n) × (l ≤ 512) × (u < l) × (l ≤ length (now arcs)) ⌝ }
+    requires { ⌜ ParentsIn (timesOf (now source)) (timesOf (now parents)) (timesOf (now base)) (timesOf (now departs)) l ⌝ }
+    ensures { λ r. ⌜ Closed (timesOf (now (source .entry))) (timesOf (now (parents .entry))) (timesOf (now (base .entry))) (timesOf (now (departs .entry))) (timesOf (now (lead .entry))) cycle l u n (r .count) (r .gain) (now (arcs .entry)) (now (arcs .exit)) ⌝ }
 {
+    if !due(n, l) {
+        return Ring { count: 0, gain: 0 };
+    }
     let mut nodes = [0u16; 513];
     let mut trail = [0u16; 512];
-    follow(
-        source,
-        launch,
-        departs,
-        parents,
-        l,
-        u,
-        &mut nodes,
-        &mut trail,
-    );
+    let long = follow(source, base, departs, parents, l, u, &mut nodes, &mut trail);
+    if long < l {
+        return Ring { count: 0, gain: 0 };
+    }
     show(lead, cycle, &nodes, &trail, l, arcs)
 }

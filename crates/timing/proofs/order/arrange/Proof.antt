@@ -1,4 +1,4 @@
--- `arrange`: after synchronizer i all up to it are listed, so at the end all are, and the order has them too.
+-- `arrange`: after synchronizer i all up to it are listed, so at the end all are.
 use mathlib.Core.Path.{_≡_, refl}
 use Prim.Native.Nat.{ℕ, _-_, _≤_, _<_}
 use native.Mathlib.Omega.{arith}
@@ -6,42 +6,40 @@ use native.Mathlib.Decide.{ℕ-discrete}
 use lib.ListN.{length, replicate}
 use Rattle.tables.specs.Net.{timesOf}
 use Rattle.tables.specs.Listing.{Listed, Enlisted}
-use Rattle.tables.proofs.Pending.{enlist-none, enlist-all, order-turned}
-use Rattle.timing.proofs.Lengths.{zero-bound}
+use Rattle.tables.proofs.Orders.{enlist-none, enlist-all}
+use Rattle.timing.proofs.Lengths.{zero-reads}
 use Rattle.timing.proofs.order.arrange.Statement.{statement}
 use Rattle.timing.proofs.order.arrange.Tie as tie
 
 abbrev Inv-loop : tie.InvT-loop
-Inv-loop source first latch l m order seen₀ stack₀ ahead₀ marks₀ list₀ count₀ i₀ seen stack ahead marks list count i =
-    (i ≤ l) × (length stack ≡ 512) × Enlisted l 1 marks list count × ((j : ℕ) → j < i → Listed (timesOf list) count j)
+Inv-loop source first latch l order₀ seen₀ stack₀ ahead₀ marks₀ count₀ i₀ order seen stack ahead marks count i =
+    (i ≤ l) × (length stack ≡ 512) × Enlisted l marks order count × ((j : ℕ) → j < i → Listed (timesOf order) count j)
 
 abbrev μ-loop : tie.MeasureT-loop
-μ-loop source first latch l m order seen₀ stack₀ ahead₀ marks₀ list₀ count₀ i₀ seen stack ahead marks list count i = l - i
+μ-loop source first latch l order₀ seen₀ stack₀ ahead₀ marks₀ count₀ i₀ order seen stack ahead marks count i = l - i
 
 loop-holds : tie.Need-loop-holds Inv-loop μ-loop
 loop-holds c = (
   omega arith,
   refl,
-  enlist-none (c .args .l) 1 (replicate 512 0) (replicate 512 0) refl refl (λ j. omega (arith, zero-bound j 0)),
+  enlist-none (c .args .l) (replicate 512 0) (c .args .order .now) refl (c .pre .1 .1) (zero-reads 512),
   λ j k. let z : ⊥ = omega arith in absurd z,
 )
 
 narrow-requires : tie.Need-narrow-requires Inv-loop μ-loop
-narrow-requires c κs = omega (arith, c .before .before .pre .0 .0, c .loop-test .taken)
+narrow-requires c κs = omega (arith, c .before .before .pre .0, c .loop-test .taken)
 
 explore-requires : tie.Need-explore-requires Inv-loop μ-loop
 explore-requires c κs =
     let p = c .before .before .before .before .before .before .before .before .pre in
     let r = c .before .before .before .before .before .before .before .loop in
-    ((p .0 .0, p .0 .1, omega (arith, c .before .before .before .before .before .narrow .ensures, c .before .before .before .before .before .before .loop-test .taken)), (p .1 .0, (r .inv .1, r .inv .2)))
+    ((p .0, omega (arith, c .before .before .before .before .before .narrow .ensures, c .before .before .before .before .before .before .loop-test .taken)), (p .1 .0, (r .inv .1, r .inv .2)))
 
 enlist-requires : tie.Need-enlist-requires Inv-loop μ-loop
-enlist-requires c κs =
-    let p = c .before .before .before .before .before .before .before .before .before .before .before .pre in
-    ((omega (arith, c .before .before .before .before .before .before .before .before .narrow .ensures, c .before .before .before .before .before .before .before .before .before .loop-test .taken), p .0 .0), c .before .before .explore .ensures .1 .0)
+enlist-requires c κs = ((omega (arith, c .before .before .before .before .before .before .before .before .narrow .ensures, c .before .before .before .before .before .before .before .before .before .loop-test .taken), c .before .before .before .before .before .before .before .before .before .before .before .pre .0), c .before .before .explore .ensures .1 .0)
 
 add-i : tie.Need-add-i Inv-loop μ-loop
-add-i c = omega (arith, c .before .before .before .before .before .before .before .before .before .before .before .before .pre .0 .0, c .before .before .before .before .before .before .before .before .before .before .loop-test .taken)
+add-i c = omega (arith, c .before .before .before .before .before .before .before .before .before .before .before .before .pre .0, c .before .before .before .before .before .before .before .before .before .before .loop-test .taken)
 
 loop-less : tie.Need-loop-less Inv-loop μ-loop
 loop-less c = omega (arith, c .before .before .before .before .before .before .before .before .before .before .loop-test .taken)
@@ -58,28 +56,11 @@ loop-again c =
       λ j k. elim (ℕ-discrete j (r .i)) [ yes q ↦ rw (q, ← n) (e .1 .0) | no q ↦ e .1 .1 j (o .1 .1 j (r .inv .3 j (omega arith))) ],
     )
 
-turn-over-requires : tie.Need-turn-over-requires Inv-loop μ-loop
-turn-over-requires c κs = let h = c .before .before .before .before .pre in (h .0 .0, h .1 .1)
-
 returns : tie.Need-returns Inv-loop μ-loop
 returns c =
-    let x = c .before .before .before .before .before .args in
-    let r = c .before .before .before .before .loop in
-    let all = enlist-all (x .l) 1 (r .marks) (r .list) (r .count) (r .inv .2) (λ j k. r .inv .3 j (omega (arith, c .before .before .before .loop-test .left))) in
-    (c .turn-over .ensures .long, order-turned (x .l) (timesOf (r .list)) _ all (c .turn-over .ensures .holds))
+    let x = c .before .before .args in
+    let r = c .before .loop in
+    (r .inv .2 .long .1, enlist-all (x .l) (r .marks) (r .order) (r .count) (r .inv .2) (λ j k. r .inv .3 j (omega (arith, c .loop-test .left))))
 
 pub arrange-spec : {M : Type 1} → statement M
-arrange-spec =
-    tie.close
-    (tie.spec
-    Inv-loop
-    μ-loop
-    loop-holds
-    narrow-requires
-    explore-requires
-    enlist-requires
-    add-i
-    loop-less
-    loop-again
-    turn-over-requires
-    returns)
+arrange-spec = tie.close (tie.spec Inv-loop μ-loop loop-holds narrow-requires explore-requires enlist-requires add-i loop-less loop-again returns)

@@ -3,19 +3,19 @@ use Prim.Native.Nat.{ℕ, _-_}
 use native.Mathlib.Omega.{arith}
 use Rattle.tables.specs.Net.{timesOf}
 use Rattle.tables.specs.Listing.{Listed, Enlisted, Stacked}
-use Rattle.tables.proofs.Pending.{stack-none}
+use Rattle.tables.proofs.Orders.{stack-none}
 use Rattle.timing.proofs.order.explore.Statement.{statement}
 use Rattle.timing.proofs.order.explore.Tie as tie
 
 abbrev Inv-loop : tie.InvT-loop
-Inv-loop source first latch l m i seen₀ stack₀ ahead₀ count marks₀ list₀ depth₀ listed₀ n₀ seen stack ahead marks list depth listed n =
-    Stacked l stack depth × Enlisted l 1 marks list listed × ((j : ℕ) → Listed (timesOf list₀) count j → Listed (timesOf list) listed j)
+Inv-loop source first latch l i seen₀ stack₀ ahead₀ count marks₀ list₀ depth₀ listed₀ n₀ seen stack ahead marks list depth listed n =
+    Stacked l stack depth × Enlisted l marks list listed × ((j : ℕ) → Listed (timesOf list₀) count j → Listed (timesOf list) listed j)
 
 abbrev μ-loop : tie.MeasureT-loop
-μ-loop source first latch l m i seen₀ stack₀ ahead₀ count marks₀ list₀ depth₀ listed₀ n₀ seen stack ahead marks list depth listed n = 4096 - n
+μ-loop source first latch l i seen₀ stack₀ ahead₀ count marks₀ list₀ depth₀ listed₀ n₀ seen stack ahead marks list depth listed n = 4096 - n
 
 push-requires : tie.Need-push-requires Inv-loop μ-loop
-push-requires c κs = let p = c .before .before .before .pre in ((p .0 .0, p .0 .2), stack-none _ _ (p .1 .1 .0))
+push-requires c κs = let p = c .before .before .before .pre in ((p .0 .0, p .0 .1), stack-none _ _ (p .1 .1 .0))
 
 loop-holds : tie.Need-loop-holds Inv-loop μ-loop
 loop-holds c = let p = c .before .before .before .before .pre in (c .push .ensures, p .1 .1 .1, λ j o. o)
@@ -24,7 +24,7 @@ returns : tie.Need-returns Inv-loop μ-loop
 returns c = let r = c .before .before .loop in (r .inv .0 .long, (r .inv .1, r .inv .2))
 
 step-requires : tie.Need-step-requires Inv-loop μ-loop
-step-requires c κs = let p = c .before .before .before .before .before .before .before .before .before .before .before .before .pre in let r = c .before .before .before .before .before .before .before .loop in ((p .0 .0, p .0 .1, omega (arith, c .before .before .before .before .before .if1 .left)), (p .1 .0, (r .inv .0, r .inv .1)))
+step-requires c κs = let p = c .before .before .before .before .before .before .before .before .before .before .before .before .pre in let r = c .before .before .before .before .before .before .before .loop in ((p .0 .0, omega (arith, c .before .before .before .before .before .if1 .left)), (p .1 .0, (r .inv .0, r .inv .1)))
 
 add-n : tie.Need-add-n Inv-loop μ-loop
 add-n c = omega (arith, c .before .before .before .before .before .before .before .loop-test .taken)

@@ -1,6 +1,6 @@
 -- `push` puts one node more on the stack, which has room for all.
 use native.Mathlib.Omega.{arith}
-use Rattle.tables.proofs.Pending.{stack-more}
+use Rattle.tables.proofs.Orders.{stack-more}
 use borrow.Author.Needs.{needs}
 use Rattle.timing.proofs.order.push.Statement.{statement}
 use Rattle.timing.proofs.order.push.Tie as tie

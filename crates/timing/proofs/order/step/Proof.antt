@@ -1,7 +1,7 @@
 -- `step`: the node on top is a node, so its arcs lie within the tables; it stays and its source may come on top, or it leaves and is listed.
 use Prim.Native.Nat.{_-_, _<_}
 use native.Mathlib.Omega.{arith}
-use Rattle.tables.proofs.Pending.{stack-less}
+use Rattle.tables.proofs.Orders.{stack-less}
 use borrow.Author.Needs.{needs}
 use Rattle.timing.proofs.order.step.Statement.{statement}
 use Rattle.timing.proofs.order.step.Tie as tie
@@ -29,7 +29,7 @@ end-requires c κs =
     let x = c .before .before .before .args in
     let p = c .before .before .before .pre in
     let k = c .index .result in
-    let top = p .1 .1 .0 .nodes (x .depth - 1) (omega (arith, p .0 .2)) in
+    let top = p .1 .1 .0 .nodes (x .depth - 1) (omega (arith, p .0 .1)) in
     let here : k < x .l = omega (arith, c .index .ensures .0, top) in
     omega (arith, p .0 .0)
 
@@ -53,20 +53,20 @@ element-copy-out-feeds c =
     let x = c .before .before .before .before .before .before .args in
     let p = c .before .before .before .before .before .before .pre in
     let k = c .before .before .before .index .result in
-    let top = p .1 .1 .0 .nodes (x .depth - 1) (omega (arith, p .0 .2)) in
+    let top = p .1 .1 .0 .nodes (x .depth - 1) (omega (arith, p .0 .1)) in
     let here : k < x .l = omega (arith, c .before .before .before .index .ensures .0, top) in
-    omega (arith, p .1 .0 .1 k here, p .0 .1, c .before .before .end .ensures, c .before .if1 .taken, c .index2 .ensures .0)
+    omega (arith, p .1 .0 .ends k here, p .1 .0 .few, c .before .before .end .ensures, c .before .if1 .taken, c .index2 .ensures .0)
 
 push-requires : tie.Need-push-requires
 push-requires c κs =
     let x = c .before .before .before .before .before .before .before .before .before .before .args in
     let p = c .before .before .before .before .before .before .before .before .before .before .pre in
     let k = c .before .before .before .before .before .before .before .index .result in
-    let top = p .1 .1 .0 .nodes (x .depth - 1) (omega (arith, p .0 .2)) in
+    let top = p .1 .1 .0 .nodes (x .depth - 1) (omega (arith, p .0 .1)) in
     let here : k < x .l = omega (arith, c .before .before .before .before .before .before .before .index .ensures .0, top) in
     let a = c .before .before .before .before .index2 .result in
-    let fed : a < x .m = omega (arith, p .1 .0 .1 k here, c .before .before .before .before .before .before .end .ensures, c .before .before .before .before .before .if1 .taken, c .before .before .before .before .index2 .ensures .0) in
-    ((p .0 .0, p .1 .0 .0 a fed), p .1 .1 .0)
+    let fed : a < p .1 .0 .arcs = omega (arith, p .1 .0 .ends k here, c .before .before .before .before .before .before .end .ensures, c .before .before .before .before .before .if1 .taken, c .before .before .before .before .index2 .ensures .0) in
+    ((p .0 .0, p .1 .0 .sources a fed), p .1 .1 .0)
 
 returns : tie.Need-returns
 returns c = let p = c .before .before .before .before .before .before .before .before .before .before .before .pre in (c .push .ensures, (p .1 .1 .1, λ j o. o))
@@ -75,7 +75,7 @@ enlist-requires : tie.Need-enlist-requires
 enlist-requires c κs =
     let x = c .before .before .before .before .before .before .before .args in
     let p = c .before .before .before .before .before .before .before .pre in
-    ((p .1 .1 .0 .nodes (x .depth - 1) (omega (arith, p .0 .2)), p .0 .0), p .1 .1 .1)
+    ((p .1 .1 .0 .nodes (x .depth - 1) (omega (arith, p .0 .1)), p .0 .0), p .1 .1 .1)
 
 returns-2 : tie.Need-returns-2
 returns-2 c =

@@ -12,11 +12,11 @@ use Rattle.timing.proofs.ring.follow.Statement.{statement}
 use Rattle.timing.proofs.ring.follow.Tie as tie
 
 abbrev Inv-loop : tie.InvT-loop
-Inv-loop source launch departs parents l u nodes₀ trail₀ node₀ d₀ nodes trail node d =
-    (length nodes ≡ 513) × (length trail ≡ 512) × Climbs (timesOf source) (timesOf parents) (timesOf launch) (timesOf departs) l u d (timesOf nodes) (timesOf trail) node
+Inv-loop source base departs parents l u nodes₀ trail₀ node₀ d₀ nodes trail node d =
+    (length nodes ≡ 513) × (length trail ≡ 512) × Climbs (timesOf source) (timesOf parents) (timesOf base) (timesOf departs) l u d (timesOf nodes) (timesOf trail) node
 
 abbrev μ-loop : tie.MeasureT-loop
-μ-loop source launch departs parents l u nodes₀ trail₀ node₀ d₀ nodes trail node d = l - d
+μ-loop source base departs parents l u nodes₀ trail₀ node₀ d₀ nodes trail node d = l - d
 
 narrow-requires : tie.Need-narrow-requires Inv-loop μ-loop
 narrow-requires c κs = omega (arith, c .pre .0 .0, c .pre .0 .1)
@@ -26,7 +26,7 @@ loop-holds c =
     let x = c .before .args in
     let S = timesOf (x .source .now) in
     let P = timesOf (x .parents .now) in
-    let L = timesOf (x .launch .now) in
+    let L = timesOf (x .base .now) in
     let D = timesOf (x .departs .now) in
     let h = c .before .pre in
     (h .1 .0 .0, h .1 .0 .1, rw (c .narrow .ensures) (climbs-none S P L D (x .l) (x .u) (timesOf (x .nodes .now)) (timesOf (x .trail .now)) (h .0 .1)))
@@ -57,7 +57,7 @@ returns c =
     let x = c .before .before .before .before .before .before .before .args in
     let S = timesOf (x .source .now) in
     let P = timesOf (x .parents .now) in
-    let L = timesOf (x .launch .now) in
+    let L = timesOf (x .base .now) in
     let D = timesOf (x .departs .now) in
     let h = c .before .before .before .before .before .before .before .pre in
     let r = c .before .before .before .before .before .loop in
@@ -90,7 +90,7 @@ element-copy-out-node c =
     let x = c .before .before .before .before .before .before .before .before .before .args in
     let S = timesOf (x .source .now) in
     let P = timesOf (x .parents .now) in
-    let L = timesOf (x .launch .now) in
+    let L = timesOf (x .base .now) in
     let D = timesOf (x .departs .now) in
     let h = c .before .before .before .before .before .before .before .before .before .pre in
     let r = c .before .before .before .before .before .before .before .loop in
@@ -109,7 +109,7 @@ loop-again c =
     let x = c .before .before .before .before .before .before .before .before .before .before .args in
     let S = timesOf (x .source .now) in
     let P = timesOf (x .parents .now) in
-    let L = timesOf (x .launch .now) in
+    let L = timesOf (x .base .now) in
     let D = timesOf (x .departs .now) in
     let h = c .before .before .before .before .before .before .before .before .before .before .pre in
     let r = c .before .before .before .before .before .before .before .before .loop in
@@ -131,7 +131,7 @@ returns-2 c =
     let x = c .before .before .before .args in
     let S = timesOf (x .source .now) in
     let P = timesOf (x .parents .now) in
-    let L = timesOf (x .launch .now) in
+    let L = timesOf (x .base .now) in
     let D = timesOf (x .departs .now) in
     let h = c .before .before .before .pre in
     let r = c .before .loop in

@@ -1,6 +1,6 @@
--- Lists of nodes without repeats: one node more.
+-- Orders of the nodes, and lists of nodes without repeats, to which one node more is added.
 use mathlib.Core.Path.{_≡_, refl, sym, ap, _∙_}
-use mathlib.Core.Bool.{cond}
+use mathlib.Core.Bool.{Bool, true, false, cond}
 use mathlib.Core.List.{List}
 use Prim.Native.Nat.{ℕ, suc, _+_, _-_, _<_, _≤_}
 use native.Mathlib.Omega.{arith}
@@ -11,7 +11,8 @@ use lib.Seq.{getD-set-same, getD-set-other}
 use borrow.Author.Tests.{eq-eqb, ne-eqb}
 use Rattle.flow.proofs.Below.{pigeons}
 use Rattle.tables.specs.Net.{timesOf}
-use Rattle.tables.specs.Listing.{Listed, fromEnd, Enlisted, Order, Stacked}
+use Rattle.tables.specs.Listing.{Listed, Enlisted, Order, Stacked}
+use Rattle.tables.specs.Passing.{toOrFro}
 
 -- one place more
 pub listed-more : (list : ℕ → ℕ) (n j : ℕ) → Listed list n j → Listed list (n + 1) j
@@ -21,21 +22,20 @@ listed-more list n j h = (h .0, omega (arith, h .1), h .2)
 pub listed-same : (list other : ℕ → ℕ) (n j : ℕ) → ((x : ℕ) → x < n → other x ≡ list x) → Listed list n j → Listed other n j
 listed-same list other n j same h = (h .0, h .1, same (h .0) (h .1) ∙ h .2)
 
--- read from its end, a list has the same nodes
-pub listed-turned : (list : ℕ → ℕ) (n j : ℕ) → Listed list n j → Listed (fromEnd list n) n j
-listed-turned list n j h =
-    let e : n - 1 - (n - 1 - h .0) ≡ h .0 = omega (arith, h .1) in
-    (n - 1 - h .0, omega (arith, h .1), ap list e ∙ h .2)
-
-pub order-turned : (l : ℕ) (list other : ℕ → ℕ) → Order l list → ((x : ℕ) → x < l → other x ≡ fromEnd list l x) → Order l other
-order-turned l list other h same = record {
-  nodes = λ x k. rw (same x k) (h .nodes (l - 1 - x) (omega arith));
-  all = λ j k. listed-same (fromEnd list l) other l j same (listed-turned list l j (h .all j k));
-}
-
 -- all nodes by their numbers
 pub order-all : (l : ℕ) → Order l (λ i. i)
 order-all l = record { nodes = λ x k. k; all = λ j k. (j, k, refl) }
+
+-- an order gone over to, or fro
+pub order-turned : (forth : Bool) (l : ℕ) (list : ℕ → ℕ) → Order l list → Order l (λ z. list (toOrFro forth l z))
+order-turned true l list h = h
+order-turned false l list h = record {
+  nodes = λ x k. h .nodes (l - 1 - x) (omega arith);
+  all = λ j k.
+      let o = h .all j k in
+      let e : l - 1 - (l - 1 - o .0) ≡ o .0 = omega (arith, o .1) in
+      (l - 1 - o .0, omega (arith, o .1), ap list e ∙ o .2);
+}
 
 -- a number of distinct nodes is at most the number of nodes
 pub few-listed : (list : ℕ → ℕ) (n l : ℕ) → ((x : ℕ) → x < n → list x < l) →
@@ -45,26 +45,24 @@ few-listed list n l inside apart = elim (decLt l n) [
   | yes k ↦ (let t = pigeons l n list inside k in absurd (apart (t .second) (t .bound) (t .first) (t .order) (t .same)))
 ]
 
--- listing for the next pass
-pub enlist-none : (l number : ℕ) (marks todo : List ℕ) → length marks ≡ 512 → length todo ≡ 512 → ((j : ℕ) → getD marks j 0 < number) →
-    Enlisted l number marks todo 0
-enlist-none l number marks todo e f below = record {
+-- the empty list
+pub enlist-none : (l : ℕ) (marks list : List ℕ) → length marks ≡ 512 → length list ≡ 512 → ((j : ℕ) → getD marks j 0 ≡ 0) → Enlisted l marks list 0
+enlist-none l marks list e f blank = record {
   long = (e, f);
   nodes = λ x k. let z : ⊥ = omega arith in absurd z;
   apart = λ y k. let z : ⊥ = omega arith in absurd z;
   marked = λ x k. let z : ⊥ = omega arith in absurd z;
-  listed = λ j q. let z : ⊥ = omega (arith, below j, q) in absurd z;
-  bound = λ j. omega (arith, below j);
+  listed = λ j q. let z : ⊥ = omega (arith, blank j, q) in absurd z;
 }
 
-module _ (l number : ℕ) (marks todo : List ℕ) (count i : ℕ) (here : i < l) (few : l ≤ 512) (h : Enlisted l number marks todo count)
-    (new : getD marks i 0 ≡ number → ⊥) where
-  fresh : (x : ℕ) → x < count → getD todo x 0 ≡ i → ⊥
+module _ (l : ℕ) (marks list : List ℕ) (count i : ℕ) (here : i < l) (few : l ≤ 512) (h : Enlisted l marks list count)
+    (new : getD marks i 0 ≡ 1 → ⊥) where
+  fresh : (x : ℕ) → x < count → getD list x 0 ≡ i → ⊥
   fresh x k e = new (rw e at (h .marked x k))
 
   -- the list and i behind it
   abbrev grown : ℕ → ℕ
-  grown x = cond (eqb x count) i (getD todo x 0)
+  grown x = cond (eqb x count) i (getD list x 0)
 
   pub enlist-room : count < l
   enlist-room =
@@ -73,7 +71,7 @@ module _ (l number : ℕ) (marks todo : List ℕ) (count i : ℕ) (here : i < l)
       at-end : grown count ≡ i
       at-end = rw (eq-eqb count count refl)
 
-      before : (x : ℕ) → (x ≡ count → ⊥) → grown x ≡ getD todo x 0
+      before : (x : ℕ) → (x ≡ count → ⊥) → grown x ≡ getD list x 0
       before x d = rw (ne-eqb x count d)
 
       inside : (x : ℕ) → x < suc count → grown x < l
@@ -87,24 +85,24 @@ module _ (l number : ℕ) (marks todo : List ℕ) (count i : ℕ) (here : i < l)
             | no q ↦ h .apart y (omega arith) x o (sym p ∙ e ∙ before y q)
           ]
 
-  room : count < length todo
+  room : count < length list
   room = omega (arith, enlist-room, h .long .1)
 
-  spot : getD (set todo count i) count 0 ≡ i
-  spot = getD-set-same todo count i 0 room
+  spot : getD (set list count i) count 0 ≡ i
+  spot = getD-set-same list count i 0 room
 
-  kept : (x : ℕ) → x < count → getD (set todo count i) x 0 ≡ getD todo x 0
-  kept x k = getD-set-other todo count x i 0 (λ q. omega arith)
+  kept : (x : ℕ) → x < count → getD (set list count i) x 0 ≡ getD list x 0
+  kept x k = getD-set-other list count x i 0 (λ q. omega arith)
 
-  pub enlist-kept : (j : ℕ) → Listed (timesOf todo) count j → Listed (timesOf (set todo count i)) (count + 1) j
-  enlist-kept j o = listed-more (timesOf (set todo count i)) count j (listed-same (timesOf todo) (timesOf (set todo count i)) count j kept o)
+  pub enlist-kept : (j : ℕ) → Listed (timesOf list) count j → Listed (timesOf (set list count i)) (count + 1) j
+  enlist-kept j o = listed-more (timesOf (set list count i)) count j (listed-same (timesOf list) (timesOf (set list count i)) count j kept o)
 
-  pub enlist-here : Listed (timesOf (set todo count i)) (count + 1) i
+  pub enlist-here : Listed (timesOf (set list count i)) (count + 1) i
   enlist-here = (count, omega arith, spot)
 
-  pub enlist-new : Enlisted l number (set marks i number) (set todo count i) (count + 1)
+  pub enlist-new : Enlisted l (set marks i 1) (set list count i) (count + 1)
   enlist-new = record {
-    long = (length-set marks i number ∙ h .long .0, length-set todo count i ∙ h .long .1);
+    long = (length-set marks i 1 ∙ h .long .0, length-set list count i ∙ h .long .1);
     nodes = λ x k. elim (ℕ-discrete x count) [ yes q ↦ rw (q, spot) here | no q ↦ rw (kept x (omega arith)) (h .nodes x (omega arith)) ];
     apart = λ y k x o e.
         let p = kept x (omega arith) in
@@ -114,27 +112,26 @@ module _ (l number : ℕ) (marks todo : List ℕ) (count i : ℕ) (here : i < l)
         ];
     marked = λ x k. elim (ℕ-discrete x count) [
       | yes q ↦ rw (q, spot) mark
-      | no q ↦ rw (kept x (omega arith)) (getD-set-other marks i (getD todo x 0) number 0 (fresh x (omega arith)) ∙ h .marked x (omega arith))
+      | no q ↦ rw (kept x (omega arith)) (getD-set-other marks i (getD list x 0) 1 0 (fresh x (omega arith)) ∙ h .marked x (omega arith))
     ];
     listed = λ j e. elim (ℕ-discrete j i) [
       | yes q ↦ rw q enlist-here
-      | no q ↦ enlist-kept j (h .listed j (sym (getD-set-other marks i j number 0 q) ∙ e))
+      | no q ↦ enlist-kept j (h .listed j (sym (getD-set-other marks i j 1 0 q) ∙ e))
     ];
-    bound = λ j. elim (ℕ-discrete j i) [ yes q ↦ rw (q, mark) (omega arith) | no q ↦ rw (getD-set-other marks i j number 0 q) (h .bound j) ];
   }
     where
-      mark : getD (set marks i number) i 0 ≡ number
-      mark = getD-set-same marks i number 0 (omega (arith, h .long .0))
+      mark : getD (set marks i 1) i 0 ≡ 1
+      mark = getD-set-same marks i 1 0 (omega (arith, h .long .0))
 
 -- a list without repeats that has all nodes is an order of them
-pub enlist-all : (l number : ℕ) (marks todo : List ℕ) (count : ℕ) → Enlisted l number marks todo count →
-    ((j : ℕ) → j < l → Listed (timesOf todo) count j) → Order l (timesOf todo)
-enlist-all l number marks todo count h all = record {
+pub enlist-all : (l : ℕ) (marks list : List ℕ) (count : ℕ) → Enlisted l marks list count →
+    ((j : ℕ) → j < l → Listed (timesOf list) count j) → Order l (timesOf list)
+enlist-all l marks list count h all = record {
   nodes = λ x k. h .nodes x (omega (arith, enough));
-  all = λ j k. let o = all j k in (o .0, omega (arith, o .1, few-listed (timesOf todo) count l (h .nodes) (h .apart)), o .2);
+  all = λ j k. let o = all j k in (o .0, omega (arith, o .1, few-listed (timesOf list) count l (h .nodes) (h .apart)), o .2);
 }
   where
-    spot : (j : ℕ) → (z : ℕ) × (j < l → (z < count) × (getD todo z 0 ≡ j))
+    spot : (j : ℕ) → (z : ℕ) × (j < l → (z < count) × (getD list z 0 ≡ j))
     spot j = elim (decLt j l) [
       | yes k ↦ (all j k .0, λ o. (all j k .1, all j k .2))
       | no d ↦ (0, λ o. absurd (d o))
@@ -145,7 +142,7 @@ enlist-all l number marks todo count h all = record {
       | no d ↦ omega arith
       | yes k ↦ (
           let t = pigeons count l (λ j. spot j .0) (λ j o. spot j .1 o .0) k in
-          let e = sym (spot (t .first) .1 (omega (arith, t .order, t .bound)) .1) ∙ ap (timesOf todo) (t .same) ∙ spot (t .second) .1 (t .bound) .1 in
+          let e = sym (spot (t .first) .1 (omega (arith, t .order, t .bound)) .1) ∙ ap (timesOf list) (t .same) ∙ spot (t .second) .1 (t .bound) .1 in
           let z : ⊥ = omega (arith, t .order, e) in
           absurd z)
     ]

@@ -1,14 +1,14 @@
--- `raise` goes by what the synchronizer is, and by whether its arrival is later than its departure.
+-- `lift` goes by what the synchronizer is, and by whether its arrival is later than its departure.
 use mathlib.Core.Path.{_≡_, refl, sym, _∙_}
 use native.Mathlib.Omega.{arith}
 use borrow.Author.Tests.{eq-eqb, ne-eqb}
-use Rattle.tables.specs.Net.{sideOf, timesOf, arcsOf, netOf}
+use Rattle.tables.specs.Net.{sideOf, timesOf, arcsOf, webOf}
 use Rattle.tables.specs.Raise.{raised, stays, rises}
 use Rattle.tables.proofs.Deciding.{raised-arc, raised-bare, raised-flop}
 use Rattle.timing.proofs.Reach.{reach}
 use borrow.Author.Needs.{needs}
-use Rattle.timing.proofs.climb.raise.Statement.{statement}
-use Rattle.timing.proofs.climb.raise.Tie as tie
+use Rattle.timing.proofs.climb.lift.Statement.{statement}
+use Rattle.timing.proofs.climb.lift.Tie as tie
 
 element-copy-out-if1 : tie.Need-element-copy-out-if1
 element-copy-out-if1 c = search needs
@@ -18,7 +18,7 @@ returns c =
     let x = c .before .before .args in
     let w = c .before .before .pre in
     let s = sideOf (x .late) in
-    let n = (netOf (arcsOf (x .source .now) (x .lead .now) (x .cycle)) (x .first .now) (x .launch .now) (x .latch .now)) in
+    let n = (webOf (arcsOf (x .source .now) (x .lead .now) (x .cycle)) (x .first .now) (x .latch .now)) in
     let D = timesOf (x .departs .now) in
     stays (raised-flop s n D (x .i) (ne-eqb _ 1 (c .if1 .taken)))
 
@@ -48,7 +48,7 @@ returns-2 c =
     let x = c .before .before .before .before .before .before .before .args in
     let w = c .before .before .before .before .before .before .before .pre in
     let s = sideOf (x .late) in
-    let n = (netOf (arcsOf (x .source .now) (x .lead .now) (x .cycle)) (x .first .now) (x .launch .now) (x .latch .now)) in
+    let n = (webOf (arcsOf (x .source .now) (x .lead .now) (x .cycle)) (x .first .now) (x .latch .now)) in
     let D = timesOf (x .departs .now) in
     stays (raised-bare s n D (x .i) (omega (arith, c .if2 .taken, c .before .before .before .index .ensures .0, c .before .index2 .ensures .0)))
 
@@ -57,7 +57,7 @@ deciding-requires c κs =
     let x = c .before .before .before .before .before .before .before .before .args in
     let w = c .before .before .before .before .before .before .before .before .pre in
     let s = sideOf (x .late) in
-    let n = (netOf (arcsOf (x .source .now) (x .lead .now) (x .cycle)) (x .first .now) (x .launch .now) (x .latch .now)) in
+    let n = (webOf (arcsOf (x .source .now) (x .lead .now) (x .cycle)) (x .first .now) (x .latch .now)) in
     let D = timesOf (x .departs .now) in
     let e = c .before .before .index2 .ensures .0 in
     (omega (arith, c .before .if2 .left), reach n (x .source .now) (x .departs .now) (w .nodes) (w .works .arcs) _ (λ a. refl) (w .works .shaped) (w .works .ranged) (omega (arith, e, w .works .shaped .ends (x .i) (w .here))))
@@ -67,7 +67,7 @@ bring-requires c κs =
     let x = c .before .before .before .before .before .before .before .before .before .before .args in
     let w = c .before .before .before .before .before .before .before .before .before .before .pre in
     let s = sideOf (x .late) in
-    let n = (netOf (arcsOf (x .source .now) (x .lead .now) (x .cycle)) (x .first .now) (x .launch .now) (x .latch .now)) in
+    let n = (webOf (arcsOf (x .source .now) (x .lead .now) (x .cycle)) (x .first .now) (x .latch .now)) in
     let D = timesOf (x .departs .now) in
     let e = c .before .before .before .before .index2 .ensures .0 in
     let d = c .before .deciding .ensures in
@@ -85,7 +85,7 @@ returns-3 c =
     let x = c .before .before .before .before .before .before .before .before .before .before .before .before .before .args in
     let w = c .before .before .before .before .before .before .before .before .before .before .before .before .before .pre in
     let s = sideOf (x .late) in
-    let n = (netOf (arcsOf (x .source .now) (x .lead .now) (x .cycle)) (x .first .now) (x .launch .now) (x .latch .now)) in
+    let n = (webOf (arcsOf (x .source .now) (x .lead .now) (x .cycle)) (x .first .now) (x .latch .now)) in
     let D = timesOf (x .departs .now) in
     let d = rw (c .before .before .before .before .before .before .before .before .before .index .ensures .0, c .before .before .before .before .before .before .before .index2 .ensures .0) at (c .before .before .before .before .deciding .ensures) in
     let f = c .before .before .before .before .before .before .before .before .before .index .ensures .0 in
@@ -113,7 +113,7 @@ returns-4 c =
     let x = c .before .before .before .before .before .before .before .before .before .before .before .before .before .before .args in
     let w = c .before .before .before .before .before .before .before .before .before .before .before .before .before .before .pre in
     let s = sideOf (x .late) in
-    let n = (netOf (arcsOf (x .source .now) (x .lead .now) (x .cycle)) (x .first .now) (x .launch .now) (x .latch .now)) in
+    let n = (webOf (arcsOf (x .source .now) (x .lead .now) (x .cycle)) (x .first .now) (x .latch .now)) in
     let D = timesOf (x .departs .now) in
     let d = rw (c .before .before .before .before .before .before .before .before .before .before .index .ensures .0, c .before .before .before .before .before .before .before .before .index2 .ensures .0) at (c .before .before .before .before .before .deciding .ensures) in
     let f = c .before .before .before .before .before .before .before .before .before .before .index .ensures .0 in
@@ -122,8 +122,8 @@ returns-4 c =
     let up : c .before .before .before .bring .result ≡ raised s n D (x .i) = sym (a ∙ omega (arith, c .before .if3 .left, c .before .before .before .bring .ensures .0, d .brings)) in
     rw (up, c .narrow .ensures) (rises (c .before .before .before .before .before .deciding .result) (rw (← up) (omega (arith, c .before .if3 .left))) d)
 
-pub raise-spec : {M : Type 1} → statement M
-raise-spec =
+pub lift-spec : {M : Type 1} → statement M
+lift-spec =
     tie.close
     (tie.spec
     element-copy-out-if1

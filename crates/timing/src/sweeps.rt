@@ -1,0 +1,106 @@
+// The first passes. Each tries every synchronizer, by number, to and fro: first to last, then last to first. They note nothing, and most
+// circuits settle in them.
+ghost use mathlib.Core.Path.{_≡_};
+ghost use mathlib.Core.Bool.{false};
+ghost use Prim.Native.Nat.{_<_};
+ghost use lib.ListN.{length};
+ghost use Rattle.tables.specs.Net.{sideOf, timesOf, arcsOf, webOf};
+ghost use Rattle.tables.specs.Raise.{Lifted, Room, Sweepable};
+ghost use Rattle.tables.specs.Passing.{toOrFro, Same, Swept, Settling};
+ghost use Rattle.timing.specs.Ready.{WorksAt};
+use crate::arrive::arrival;
+use crate::arrive::greater;
+use crate::arrive::index;
+
+// Place x of a pass over l places.
+pub(crate) fn turn(forth: bool, l: usize, x: usize) -> usize
+    requires { ⌜ x < l ⌝ }
+    ensures { λ r. ⌜ r ≡ toOrFro forth l x ⌝ }
+{
+    if forth { x } else { l - 1 - x }
+}
+
+// Raises synchronizer i to its arrival, where that is later than its departure. Says whether it was.
+fn raise(
+    late: bool,
+    source: &[u16; 2048],
+    lead: &[u32; 2048],
+    cycle: u32,
+    first: &[u16; 513],
+    latch: &[u8; 512],
+    i: usize,
+    departs: &mut [u64; 512],
+) -> bool
+    requires { ⌜ WorksAt (webOf (arcsOf (now source) (now lead) cycle) (now first) (now latch)) (timesOf (now departs)) i ⌝ }
+    ensures { λ r. ⌜ Lifted (sideOf late) (webOf (arcsOf (now (source .entry)) (now (lead .entry)) cycle) (now (first .entry)) (now (latch .entry))) i (now (departs .entry)) r (now (departs .exit)) ⌝ }
+{
+    if latch[i] != 1 {
+        return false;
+    }
+    let from = index(first[i]);
+    let to = index(first[i + 1]);
+    if to <= from {
+        return false;
+    }
+    let time = arrival(late, source, lead, cycle, departs, from, to);
+    let before = departs[i];
+    departs[i] = greater(time, before);
+    before < time
+}
+
+// One pass. Says whether it raised any.
+fn sweep(
+    late: bool,
+    source: &[u16; 2048],
+    lead: &[u32; 2048],
+    cycle: u32,
+    first: &[u16; 513],
+    latch: &[u8; 512],
+    l: usize,
+    forth: bool,
+    departs: &mut [u64; 512],
+) -> bool
+    requires { ⌜ Sweepable (webOf (arcsOf (now source) (now lead) cycle) (now first) (now latch)) l ⌝ }
+    requires { ⌜ Room l l (timesOf (now departs)) × (length (now departs) ≡ 512) ⌝ }
+    ensures { λ r. ⌜ Swept (sideOf late) (webOf (arcsOf (now (source .entry)) (now (lead .entry)) cycle) (now (first .entry)) (now (latch .entry))) l (timesOf (now (departs .entry))) (toOrFro forth l) l (now (departs .exit)) ⌝ }
+    ensures { λ r. ⌜ (r ≡ false → Same l (timesOf (now (departs .entry))) (timesOf (now (departs .exit)))) ⌝ }
+{
+    let mut changed = false;
+    let mut x: usize = 0;
+    while x < l {
+        let i = turn(forth, l, x);
+        changed = changed | raise(late, source, lead, cycle, first, latch, i, departs);
+        x += 1;
+    }
+    changed
+}
+
+// After so many passes most circuits have settled.
+const PATIENCE: usize = 6;
+
+// Passes until one raises none, but no more than that. Says whether it came to that.
+pub(crate) fn settle(
+    late: bool,
+    source: &[u16; 2048],
+    lead: &[u32; 2048],
+    cycle: u32,
+    first: &[u16; 513],
+    latch: &[u8; 512],
+    l: usize,
+    departs: &mut [u64; 512],
+) -> bool
+    requires { ⌜ Sweepable (webOf (arcsOf (now source) (now lead) cycle) (now first) (now latch)) l ⌝ }
+    requires { ⌜ Room l 265216 (timesOf (now departs)) × (length (now departs) ≡ 512) ⌝ }
+    ensures { λ r. ⌜ Settling (sideOf late) (webOf (arcsOf (now (source .entry)) (now (lead .entry)) cycle) (now (first .entry)) (now (latch .entry))) l (timesOf (now (departs .entry))) (now (departs .exit)) r ⌝ }
+{
+    let mut forth = true;
+    let mut n: usize = 0;
+    while n < PATIENCE {
+        if !sweep(late, source, lead, cycle, first, latch, l, forth, departs) {
+            return true;
+        }
+        forth = !forth;
+        n += 1;
+    }
+    false
+}
