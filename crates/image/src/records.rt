@@ -136,6 +136,22 @@ impl Synchronizer {
         }
     }
 
+    // As `read`, where the image says how many there are. Whether all of them lie within the bytes is the same question for each, so compiled
+    // code asks it once for a loop over the table.
+    pub fn of(bytes: &[u8], image: Image, i: u32) -> Synchronizer
+        ensures { λ r. ⌜ r ≡ synchronizerAt (now (bytes .entry)) (image .layout) i ⌝ }
+    {
+        let table = image.layout.synchronizers;
+        if image.layout.synchronizer_bytes == Image::SYNCHRONIZER_BYTES {
+            if i < image.synchronizers {
+                if place(table, Image::SYNCHRONIZER_BYTES, image.synchronizers) <= bytes.len() {
+                    return Synchronizer::whole(bytes, place(table, Image::SYNCHRONIZER_BYTES, i));
+                }
+            }
+        }
+        Synchronizer::read(bytes, image.layout, i)
+    }
+
     pub fn read(bytes: &[u8], layout: Layout, i: u32) -> Synchronizer
         ensures { λ r. ⌜ r ≡ synchronizerAt (now (bytes .entry)) layout i ⌝ }
     {
@@ -183,6 +199,19 @@ impl Arc {
                 greatest: s.hold,
             }
         }
+    }
+
+    // As `read`, where the image says how many there are: for a loop over the table.
+    pub fn of(bytes: &[u8], image: Image, i: u32) -> Arc
+        ensures { λ r. ⌜ r ≡ arcAt (now (bytes .entry)) (image .layout) i ⌝ }
+    {
+        let table = image.layout.arcs;
+        if i < image.arcs {
+            if place(table, Image::ARC_BYTES, image.arcs) <= bytes.len() {
+                return Arc::whole(bytes, place(table, Image::ARC_BYTES, i));
+            }
+        }
+        Arc::read(bytes, image.layout, i)
     }
 
     pub fn read(bytes: &[u8], layout: Layout, i: u32) -> Arc

@@ -11,7 +11,6 @@ use crate::kind::Part;
 use crate::records::Arc;
 use crate::records::Phase;
 use crate::records::Synchronizer;
-use crate::records::place;
 
 // The rules that ask something of every record of a table.
 pub enum Rule {
@@ -131,22 +130,14 @@ pub(crate) fn lowest(bytes: &[u8], image: Image, rule: Rule, count: u32) -> u32
 }
 
 // Is it plain that no synchronizer breaks rule 7? A good image is told by this and `arcs_good`, with one look at each record. Where the
-// answer is no, `lowest` finds the rule and the record, if there is one: a table that does not lie within the image, or that has records of
-// another size, is not looked at here, so that no record needs to be asked where it ends.
+// answer is no, `lowest` finds the rule and the record.
 pub(crate) fn synchronizers_good(bytes: &[u8], image: Image) -> bool
     ensures { λ r. ⌜ (r ≡ true → lowestOf (breaksOf (now (bytes .entry)) image Synchronizers) (image .synchronizers) ≡ image .synchronizers) ⌝ }
 {
-    let first = image.layout.synchronizers;
     let many = image.synchronizers;
-    if image.layout.synchronizer_bytes != Image::SYNCHRONIZER_BYTES {
-        return false;
-    }
-    if bytes.len() < place(first, Image::SYNCHRONIZER_BYTES, many) {
-        return false;
-    }
     let mut i: u32 = 0;
     while i < many {
-        let s = Synchronizer::whole(bytes, place(first, Image::SYNCHRONIZER_BYTES, i));
+        let s = Synchronizer::of(bytes, image, i);
         if bad_window(s, image) {
             return false;
         }
@@ -160,15 +151,11 @@ pub(crate) fn synchronizers_good(bytes: &[u8], image: Image) -> bool
 pub(crate) fn arcs_good(bytes: &[u8], image: Image) -> bool
     ensures { λ r. ⌜ (r ≡ true → (lowestOf (breaksOf (now (bytes .entry)) image Arcs) (image .arcs) ≡ image .arcs) × (lowestOf (breaksOf (now (bytes .entry)) image Order) (image .arcs) ≡ image .arcs)) ⌝ }
 {
-    let table = image.layout.arcs;
     let count = image.arcs;
-    if bytes.len() < place(table, Image::ARC_BYTES, count) {
-        return false;
-    }
     let mut next: u64 = 0;
     let mut i: u32 = 0;
     while i < count {
-        let arc = Arc::whole(bytes, place(table, Image::ARC_BYTES, i));
+        let arc = Arc::of(bytes, image, i);
         let key = 4_294_967_296 * (arc.to as u64) + (arc.from as u64);
         if bad_fields(arc, image.synchronizers) | (key < next) {
             return false;

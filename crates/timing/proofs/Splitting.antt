@@ -4,74 +4,92 @@ use mathlib.Core.List.{List}
 use mathlib.Core.Logic.{⊎-elim}
 use Prim.Native.Nat.{ℕ, _+_, _≤_, _<_}
 use native.Mathlib.Nat.{le-refl, eq-or-lt-of-le, lt-of-not-le}
+use native.Mathlib.Decide.{decLt}
 use native.Mathlib.Omega.{arith}
-use lib.ListN.{getD, set}
-use borrow.Author.Count.{below-more}
+use lib.ListN.{length, getD, set}
+use borrow.Author.Count.{below-none, below-more}
 use Rattle.circuit.specs.Circuit.{Circuit}
 use Rattle.circuit.proofs.Sound.{Sound}
-use Rattle.tables.specs.Net.{timesOf}
-use Rattle.tables.proofs.Filled.{Filled}
-use Rattle.timing.specs.Loaded.{Sorted, Splits, Firsts, LoadedFirst}
+use Rattle.timing.specs.Loaded.{Spread, LoadedFirst}
 use Rattle.timing.proofs.Storing.{kept, stored, sized}
+
+-- the arcs before arc x enter synchronizers below i, all others do not
+pub record Splits (c : Circuit) (i x : ℕ) : Type 0 where
+  pub within : x ≤ c .arcs
+  pub below : (a : ℕ) → a < x → c .to a < i
+  pub above : (a : ℕ) → x ≤ a → a < c .arcs → i ≤ c .to a
+
+-- none of the first a arcs enters a synchronizer above `last`, and up to it the table says where the arcs split
+pub record Entered (c : Circuit) (a last : ℕ) (first : List ℕ) : Type 0 where
+  pub long : length first ≡ 513
+  pub passed : (b : ℕ) → b < a → c .to b ≤ last
+  pub each : (i : ℕ) → i < last + 1 → Splits c i (getD first i 0)
+
+-- one place more in the spread
+pub spread-more : (before after : List ℕ) (from i a : ℕ) → from ≤ i → i + 1 < length before → Spread before from i a after →
+    Spread before from (i + 1) a (set after (i + 1) a)
+spread-more before after from i a low l s = record {
+  long = sized after (i + 1) a _ (s .long);
+  kept = λ j h. kept after (i + 1) a j (omega arith) ∙ s .kept j h;
+  new = λ j h k. ⊎-elim
+      (λ e. rw e (stored after (i + 1) a (omega (arith, s .long))))
+      (λ less. kept after (i + 1) a j less ∙ s .new j h (omega arith))
+      (eq-or-lt-of-le k);
+}
 
 not-below : (x y : ℕ) → (y < x → ⊥) → x ≤ y
 not-below x y h = omega (arith, lt-of-not-le h)
 
--- the first arc whose target is not below i, or the number of arcs
-pub splits : (to : ℕ → ℕ) (m : ℕ) → Sorted to m → (i x : ℕ) → x ≤ m → ((a : ℕ) → a < x → to a < i) → (x < m → i ≤ to x) → Splits to m i x
-splits to m s i x w b t = record {
-  within = w;
-  below = b;
-  above = λ a h l. omega (arith, t (omega arith), s x a h l);
-}
-
-module _ (to : ℕ → ℕ) (m i x y : ℕ) (p : Splits to m i x) (q : Splits to m (i + 1) y) where
+module _ (c : Circuit) (i x y : ℕ) (p : Splits c i x) (q : Splits c (i + 1) y) where
   split-rises : x ≤ y
   split-rises = not-below x y (λ h. omega (arith, p .below y h, q .above y (le-refl y) (omega (arith, p .within))))
 
-  split-inside : (a : ℕ) → x ≤ a → a < y → to a ≡ i
+  split-inside : (a : ℕ) → x ≤ a → a < y → c .to a ≡ i
   split-inside a h k = omega (arith, q .below a k, p .above a h (omega (arith, q .within)))
 
-  split-outside : (a : ℕ) → a < m → to a ≡ i → (x ≤ a) × (a < y)
+  split-outside : (a : ℕ) → a < c .arcs → c .to a ≡ i → (x ≤ a) × (a < y)
   split-outside a l e = (
     not-below x a (λ h. omega (arith, p .below a h)),
     lt-of-not-le (λ h. omega (arith, q .above a h l)),
   )
 
-pub firsts-more : (to : ℕ → ℕ) (m n : ℕ) (first : List ℕ) (x : ℕ) → Firsts to m n first → n < 513 → Splits to m n x →
-    Firsts to m (n + 1) (set first n x)
-firsts-more to m n first x t l new = record {
-  long = sized first n x 513 (t .long);
-  each = below-more _ n (λ i h. rw (kept first n x i h) (t .each i h)) (rw (stored first n x (omega (arith, t .long))) new);
+loaded-first : (c : Circuit) (first : List ℕ) → length first ≡ 513 →
+    ((i : ℕ) → i < c .synchronizers + 1 → Splits c i (getD first i 0)) → LoadedFirst c first
+loaded-first c first e f = record {
+  long = e;
+  rises = λ i l. split-rises c i _ _ (f i (omega arith)) (f (i + 1) (omega arith));
+  within = λ i l. f (i + 1) (omega arith) .within;
+  inside = λ i a l. split-inside c i _ _ (f i (omega arith)) (f (i + 1) (omega arith)) a;
+  outside = λ i a l. split-outside c i _ _ (f i (omega arith)) (f (i + 1) (omega arith)) a;
 }
 
--- a table of the targets stands for them
-module _ (c : Circuit) (v : Sound c) (targets : List ℕ) (t : Filled 2048 (c .to) targets (c .arcs)) where
-  to-rises : (a b : ℕ) → a ≤ b → b < c .arcs → c .to a ≤ c .to b
-  to-rises a b h l =
-      ⊎-elim (λ e. rw e (le-refl _)) (λ k. ⊎-elim (λ p. omega arith) (λ p. omega arith) (v .ordered a b k l)) (eq-or-lt-of-le h)
+pub entered-none : (c : Circuit) (first : List ℕ) → length first ≡ 513 → Entered c 0 0 (set first 0 0)
+entered-none c first e = record {
+  long = sized first 0 0 513 e;
+  passed = below-none _;
+  each = below-more _ 0 (below-none _)
+      (rw (stored first 0 0 (omega arith)) (record { within = omega arith; below = below-none _; above = λ a h l. omega arith }));
+}
 
-  pub targets-sorted : Sorted (timesOf targets) (c .arcs)
-  targets-sorted a b h l = rw (t .holds a (omega arith), t .holds b l) (to-rises a b h l)
+module _ (c : Circuit) (v : Sound c) (a last up : ℕ) (first after : List ℕ) (t : Entered c a last first) (s : Spread first last up a after) where
+  -- where no arc from a on enters below `up`, the arcs into all synchronizers above `last` and up to it begin at a
+  reaches : a ≤ c .arcs → ((b : ℕ) → a ≤ b → b < c .arcs → up ≤ c .to b) → (i : ℕ) → i < up + 1 → Splits c i (getD after i 0)
+  reaches w high i l = elim (decLt last i) [
+    | yes k ↦ rw (s .new i k (omega arith)) (record { within = w; below = λ b h. omega (arith, t .passed b h); above = λ b h m. omega (arith, high b h m) })
+    | no k ↦ (let h : i ≤ last = omega arith in rw (s .kept i h) (t .each i (omega arith)))
+  ]
 
-  module _ (first : List ℕ) (f : Firsts (timesOf targets) (c .arcs) (c .synchronizers + 1) first) where
-    at : (i : ℕ) → i < c .synchronizers → Splits (timesOf targets) (c .arcs) i (getD first i 0)
-    at i l = f .each i (omega arith)
+  to-rises : (x y : ℕ) → x ≤ y → y < c .arcs → c .to x ≤ c .to y
+  to-rises x y h l =
+      ⊎-elim (λ e. rw e (le-refl _)) (λ k. ⊎-elim (λ p. omega arith) (λ p. omega arith) (v .ordered x y k l)) (eq-or-lt-of-le h)
 
-    next : (i : ℕ) → i < c .synchronizers → Splits (timesOf targets) (c .arcs) (i + 1) (getD first (i + 1) 0)
-    next i l = f .each (i + 1) (omega arith)
+  pub entered-more : a < c .arcs → up ≡ c .to a → Entered c (a + 1) up after
+  entered-more l e = record {
+    long = s .long ∙ t .long;
+    passed = λ b h. omega (arith, to-rises b a (omega arith) l);
+    each = reaches (omega arith) (λ b h m. omega (arith, to-rises a b h m));
+  }
 
-    within : (i : ℕ) → i < c .synchronizers → getD first (i + 1) 0 ≤ c .arcs
-    within i l = next i l .within
-
-    enters : (i a : ℕ) → i < c .synchronizers → getD first i 0 ≤ a → a < getD first (i + 1) 0 → timesOf targets a ≡ i
-    enters i a l = split-inside (timesOf targets) (c .arcs) i _ _ (at i l) (next i l) a
-
-    pub loaded-first : LoadedFirst c first
-    loaded-first = record {
-      long = f .long;
-      rises = λ i l. split-rises (timesOf targets) (c .arcs) i _ _ (at i l) (next i l);
-      within = within;
-      inside = λ i a l low high. rw (← t .holds a (omega (arith, within i l))) (enters i a l low high);
-      outside = λ i a l k e. split-outside (timesOf targets) (c .arcs) i _ _ (at i l) (next i l) a k (t .holds a k ∙ e);
-    }
+  pub entered-all : a ≡ c .arcs → up ≡ c .synchronizers → LoadedFirst c after
+  entered-all e m = loaded-first c after (s .long ∙ t .long)
+      (λ i l. reaches (omega arith) (λ b h k. let z : ⊥ = omega arith in absurd z) i (omega arith))

@@ -55,20 +55,11 @@ abbrev pub leadsOf : Side → List ℕ → List ℕ → List ℕ
 leadsOf late lates earlies = lates
 leadsOf early lates earlies = earlies
 
--- of m arcs, those before arc x enter synchronizers below i, all others do not
-pub record Splits (to : ℕ → ℕ) (m i x : ℕ) : Type 0 where
-  pub within : x ≤ m
-  pub below : (a : ℕ) → a < x → to a < i
-  pub above : (a : ℕ) → x ≤ a → a < m → i ≤ to a
-
--- m arcs lie in the order of the synchronizers that they enter
-abbrev pub Sorted : (ℕ → ℕ) → ℕ → Type 0
-Sorted to m = (a b : ℕ) → a ≤ b → b < m → to a ≤ to b
-
--- each of the table's first n places splits them
-pub record Firsts (to : ℕ → ℕ) (m n : ℕ) (first : List ℕ) : Type 0 where
-  pub long : length first ≡ 513
-  pub each : (i : ℕ) → i < n → Splits to m i (getD first i 0)
+-- a table in which the places above `from` and up to `to` hold a, and those up to `from` what they held before
+pub record Spread (before : List ℕ) (from to a : ℕ) (after : List ℕ) : Type 0 where
+  pub long : length after ≡ length before
+  pub kept : (i : ℕ) → i ≤ from → getD after i 0 ≡ getD before i 0
+  pub new : (i : ℕ) → from < i → i ≤ to → getD after i 0 ≡ a
 
 -- the arcs into i are those from first i up to first (i + 1)
 pub record LoadedFirst (c : Circuit) (first : List ℕ) : Type 0 where

@@ -3,14 +3,13 @@ ghost use mathlib.Core.Path.{_≡_};
 ghost use Rattle.flow.specs.Flow as side;
 ghost use Rattle.image.specs.Checks.{checkOf};
 ghost use Rattle.circuit.specs.Circuit.{circuitOf};
-ghost use Rattle.image.specs.Valid.{Valid, imageIn};
+ghost use Rattle.image.specs.Valid.{imageIn};
 ghost use Rattle.image.specs.declared.checks.Checked.the-variants as check;
-ghost use Rattle.timing.specs.Loaded.{Sized, Loaded};
+ghost use Rattle.timing.specs.Loaded.{Loaded};
 ghost use Rattle.timing.specs.Promise.{Served, Timing};
 ghost use Rattle.timing.specs.Told.{Known, Told};
 use crate::climb::rise;
-use crate::load::load_first;
-use crate::load::load_records;
+use crate::load::load;
 use crate::results::Missed;
 use crate::results::write_results;
 use image::Checked;
@@ -22,37 +21,6 @@ pub enum Answer {
     Refused(u32, u32),
     Growing(u32, i64),
     Timed(u32, u32),
-}
-
-// Fills the tables from a good image.
-pub(crate) fn load(
-    bytes: &[u8],
-    image: Image,
-    source: &mut [u16; 2048],
-    late: &mut [u32; 2048],
-    early: &mut [u32; 2048],
-    first: &mut [u16; 513],
-    launch: &mut [u64; 512],
-    latch: &mut [u8; 512],
-)
-    requires { ⌜ Valid (now bytes) × (image ≡ imageIn (now bytes)) ⌝ }
-    requires { ⌜ Sized (now source) (now late) (now early) (now first) (now launch) (now latch) ⌝ }
-    ensures { λ _. ⌜ Loaded (circuitOf (now (bytes .entry))) (now (source .exit)) (now (late .exit)) (now (early .exit)) (now (first .exit)) (now (launch .exit)) (now (latch .exit)) ⌝ }
-{
-    let mut target = [0u16; 2048];
-    load_records(
-        bytes,
-        image,
-        source,
-        late,
-        early,
-        launch,
-        latch,
-        &mut target,
-    );
-    let l = image.synchronizers as usize;
-    let m = image.arcs as usize;
-    load_first(&target, l, m, first);
 }
 
 // Where the late departures are known: works the early ones out, from the launches on, and writes the results. The arc buffer is lent for a ring, and

@@ -1,13 +1,11 @@
 // Loading: from the records of a good image to the tables that the engine works on.
 ghost use mathlib.Core.Path.{_≡_};
-ghost use Prim.Native.Nat.{ℕ, _+_, _-_, _≤_, _<_};
+ghost use Prim.Native.Nat.{_+_, _-_, _≤_, _<_};
 ghost use lib.ListN.{length};
 ghost use Rattle.image.specs.Valid.{Valid, imageIn};
 ghost use Rattle.circuit.specs.Circuit.{circuitOf};
-ghost use Rattle.tables.specs.Net.{timesOf};
 ghost use Rattle.tables.proofs.Filled.{Filled};
-ghost use Rattle.timing.specs.Loaded.{Launched, Noted, Led, Sorted, Splits, Firsts, LoadedNodes, LoadedArcs};
-use crate::arrive::index;
+ghost use Rattle.timing.specs.Loaded.{Launched, Noted, Led, Spread, LoadedNodes, LoadedArcs, LoadedFirst, Sized, Loaded};
 use crate::arrive::narrow;
 use crate::signed::RAISE;
 use image::Arc;
@@ -27,7 +25,7 @@ struct Node {
 // An arc: the synchronizers that it leaves and enters, and its late and early weights with a cycle added.
 struct Lead {
     source: u16,
-    target: u16,
+    target: usize,
     late: u32,
     early: u32,
 }
@@ -52,7 +50,7 @@ fn load_phases(bytes: &[u8], image: Image, closing: &mut [u32; 16], active: &mut
 }
 
 // A synchronizer's launch: the opening of a latch, the cycle for a flip-flop.
-pub(crate) fn launched(bytes: &[u8], image: Image, active: &[u32; 16], i: u32) -> Node
+fn launched(bytes: &[u8], image: Image, active: &[u32; 16], i: u32) -> Node
     requires { ⌜ Valid (now bytes) ⌝ }
     requires { ⌜ image ≡ imageIn (now bytes) ⌝ }
     requires { ⌜ i < image .synchronizers ⌝ }
@@ -60,7 +58,7 @@ pub(crate) fn launched(bytes: &[u8], image: Image, active: &[u32; 16], i: u32) -
     ensures { λ r. ⌜ Launched (circuitOf (now (bytes .entry))) i (r .launch) (r .latch) ⌝ }
     ensures { λ r. ⌜ (r .phase ≡ circuitOf (now (bytes .entry)) .phase i) × (r .least ≡ circuitOf (now (bytes .entry)) .least i) × (r .greatest ≡ circuitOf (now (bytes .entry)) .greatest i) ⌝ }
 {
-    let s = Synchronizer::read(bytes, image.layout, i);
+    let s = Synchronizer::of(bytes, image, i);
     let raised = RAISE + (image.cycle as u64);
     if s.kind == 0 {
         Node {
@@ -123,7 +121,7 @@ fn shift(cycle: u32, p: u8, q: u8, x: u32, y: u32) -> u32
 }
 
 // An arc's leads: delay + cycle - shift, which is never below zero, as no shift exceeds the cycle.
-pub(crate) fn led(
+fn led(
     bytes: &[u8],
     image: Image,
     closing: &[u32; 16],
@@ -139,7 +137,7 @@ pub(crate) fn led(
     ensures { λ r. ⌜ Led (circuitOf (now (bytes .entry))) a (r .source) (r .late) (r .early) ⌝ }
     ensures { λ r. ⌜ r .target ≡ circuitOf (now (bytes .entry)) .to a ⌝ }
 {
-    let arc = Arc::read(bytes, image.layout, a);
+    let arc = Arc::of(bytes, image, a);
     let from = arc.from as usize;
     let to = arc.to as usize;
     let p = phase[from];
@@ -148,12 +146,25 @@ pub(crate) fn led(
     let back = cycle - shift(cycle, p, q, closing[p as usize], closing[q as usize]);
     Lead {
         source: narrow(from),
-        target: narrow(to),
+        target: to,
         late: greatest[from] + arc.greatest + back,
         early: least[from] + arc.least + back,
     }
 }
 
+// No arc before a enters a synchronizer above `from`, and none from a on enters one below `to`: the arcs into those between begin at a.
+fn enter(first: &mut [u16; 513], from: usize, to: usize, a: u16)
+    requires { ⌜ (to ≤ 512) × (length (now first) ≡ 513) ⌝ }
+    ensures { λ _. ⌜ Spread (now (first .entry)) from to a (now (first .exit)) ⌝ }
+{
+    let mut i = from;
+    while i < to {
+        i += 1;
+        first[i] = a;
+    }
+}
+
+// The arcs lie in the order of the synchronizers that they enter, so those into i are the ones from first[i] up to first[i + 1].
 fn load_arcs(
     bytes: &[u8],
     image: Image,
@@ -164,16 +175,16 @@ fn load_arcs(
     source: &mut [u16; 2048],
     late: &mut [u32; 2048],
     early: &mut [u32; 2048],
-    target: &mut [u16; 2048],
+    first: &mut [u16; 513],
 )
-    requires { ⌜ Valid (now bytes) ⌝ }
-    requires { ⌜ image ≡ imageIn (now bytes) ⌝ }
+    requires { ⌜ Valid (now bytes) × (image ≡ imageIn (now bytes)) ⌝ }
     requires { ⌜ Noted (circuitOf (now bytes)) (now closing) (now phase) (now least) (now greatest) ⌝ }
-    requires { ⌜ (length (now source) ≡ 2048) × (length (now late) ≡ 2048) × (length (now early) ≡ 2048) ⌝ }
-    requires { ⌜ length (now target) ≡ 2048 ⌝ }
-    ensures { λ r. ⌜ LoadedArcs (circuitOf (now (bytes .entry))) (now (source .exit)) (now (late .exit)) (now (early .exit)) ⌝ }
-    ensures { λ r. ⌜ Filled 2048 (circuitOf (now (bytes .entry)) .to) (now (target .exit)) (circuitOf (now (bytes .entry)) .arcs) ⌝ }
+    requires { ⌜ (length (now source) ≡ 2048) × (length (now late) ≡ 2048) × (length (now early) ≡ 2048) × (length (now first) ≡ 513) ⌝ }
+    ensures { λ _. ⌜ LoadedArcs (circuitOf (now (bytes .entry))) (now (source .exit)) (now (late .exit)) (now (early .exit)) ⌝ }
+    ensures { λ _. ⌜ LoadedFirst (circuitOf (now (bytes .entry))) (now (first .exit)) ⌝ }
 {
+    first[0] = 0;
+    let mut entered: usize = 0;
     let mut a: u32 = 0;
     while a < image.arcs {
         let loaded = led(bytes, image, closing, phase, least, greatest, a);
@@ -181,29 +192,33 @@ fn load_arcs(
         source[at] = loaded.source;
         late[at] = loaded.late;
         early[at] = loaded.early;
-        target[at] = loaded.target;
+        enter(first, entered, loaded.target, narrow(at));
+        entered = loaded.target;
         a += 1;
     }
+    enter(
+        first,
+        entered,
+        image.synchronizers as usize,
+        narrow(a as usize),
+    );
 }
 
-// Reads every record once. What the arcs need of the phases and of the synchronizers is noted in tables that nothing else uses.
-pub(crate) fn load_records(
+// Fills the tables from a good image, of which it reads every record once. What the arcs need of the phases and of the synchronizers is
+// noted in tables that nothing else uses.
+pub(crate) fn load(
     bytes: &[u8],
     image: Image,
     source: &mut [u16; 2048],
     late: &mut [u32; 2048],
     early: &mut [u32; 2048],
+    first: &mut [u16; 513],
     launch: &mut [u64; 512],
     latch: &mut [u8; 512],
-    target: &mut [u16; 2048],
 )
-    requires { ⌜ Valid (now bytes) ⌝ }
-    requires { ⌜ image ≡ imageIn (now bytes) ⌝ }
-    requires { ⌜ (length (now source) ≡ 2048) × (length (now late) ≡ 2048) × (length (now early) ≡ 2048) ⌝ }
-    requires { ⌜ (length (now launch) ≡ 512) × (length (now latch) ≡ 512) × (length (now target) ≡ 2048) ⌝ }
-    ensures { λ r. ⌜ LoadedNodes (circuitOf (now (bytes .entry))) (now (launch .exit)) (now (latch .exit)) ⌝ }
-    ensures { λ r. ⌜ LoadedArcs (circuitOf (now (bytes .entry))) (now (source .exit)) (now (late .exit)) (now (early .exit)) ⌝ }
-    ensures { λ r. ⌜ Filled 2048 (circuitOf (now (bytes .entry)) .to) (now (target .exit)) (circuitOf (now (bytes .entry)) .arcs) ⌝ }
+    requires { ⌜ Valid (now bytes) × (image ≡ imageIn (now bytes)) ⌝ }
+    requires { ⌜ Sized (now source) (now late) (now early) (now first) (now launch) (now latch) ⌝ }
+    ensures { λ _. ⌜ Loaded (circuitOf (now (bytes .entry))) (now (source .exit)) (now (late .exit)) (now (early .exit)) (now (first .exit)) (now (launch .exit)) (now (latch .exit)) ⌝ }
 {
     let mut closing = [0u32; 16];
     let mut active = [0u32; 16];
@@ -231,39 +246,6 @@ pub(crate) fn load_records(
         source,
         late,
         early,
-        target,
+        first,
     );
-}
-
-// From arc a on, the first arc whose target is not below i, or the number of arcs.
-fn advance(target: &[u16; 2048], m: usize, a: usize, i: usize) -> usize
-    requires { ⌜ (a ≤ m) × (m ≤ 2048) ⌝ }
-    requires { ⌜ Sorted (timesOf (now target)) m ⌝ }
-    requires { ⌜ ((b : ℕ) → b < a → timesOf (now target) b < i) ⌝ }
-    ensures { λ r. ⌜ Splits (timesOf (now (target .entry))) m i r ⌝ }
-{
-    let mut b = a;
-    while b < m {
-        if i <= index(target[b]) {
-            return b;
-        }
-        b += 1;
-    }
-    b
-}
-
-// The arcs into i are those from first[i] up to first[i + 1].
-pub(crate) fn load_first(target: &[u16; 2048], l: usize, m: usize, first: &mut [u16; 513])
-    requires { ⌜ (l ≤ 512) × (m ≤ 2048) ⌝ }
-    requires { ⌜ Sorted (timesOf (now target)) m ⌝ }
-    requires { ⌜ length (now first) ≡ 513 ⌝ }
-    ensures { λ r. ⌜ Firsts (timesOf (now (target .entry))) m (l + 1) (now (first .exit)) ⌝ }
-{
-    let mut a: usize = 0;
-    let mut i: usize = 0;
-    while i <= l {
-        a = advance(target, m, a, i);
-        first[i] = narrow(a);
-        i += 1;
-    }
 }

@@ -14,29 +14,20 @@ use Rattle.image.proofs.rules.arcs_good.Statement.{statement}
 use Rattle.image.proofs.rules.arcs_good.Tie as tie
 
 abbrev Inv-loop : tie.InvT-loop
-Inv-loop bytes image table count next₀ i₀ next i =
+Inv-loop bytes image count next₀ i₀ next i =
     (i ≤ count)
     × ((j : ℕ) → j < i → badArc bytes image j ≡ false)
     × ((j : ℕ) → j < i → badOrder bytes image j ≡ false)
     × (0 < i → next ≡ keyOf (arcAt bytes (image .layout) (i - 1)) + 1)
 
 abbrev μ-loop : tie.MeasureT-loop
-μ-loop bytes image table count next₀ i₀ next i = count - i
-
-place-requires : tie.Need-place-requires Inv-loop μ-loop
-place-requires c κs = search needs
-
-returns : tie.Need-returns Inv-loop μ-loop
-returns c = λ h. absurd (false-true h)
+μ-loop bytes image count next₀ i₀ next i = count - i
 
 loop-holds : tie.Need-loop-holds Inv-loop μ-loop
 loop-holds c = (omega arith, below-none _, below-none _, λ h. let z : ⊥ = omega arith in absurd z)
 
-place-requires-2 : tie.Need-place-requires-2 Inv-loop μ-loop
-place-requires-2 c κs = search needs
-
-whole-requires : tie.Need-whole-requires Inv-loop μ-loop
-whole-requires c κs = omega (arith, c .place2 .ensures .0, c .before .loop-test .taken, c .before .before .before .if1 .left, c .before .before .before .before .place .ensures .0)
+of-requires : tie.Need-of-requires Inv-loop μ-loop
+of-requires c κs = search needs
 
 cast-key : tie.Need-cast-key Inv-loop μ-loop
 cast-key c = search needs
@@ -53,20 +44,21 @@ add-key c = search needs
 bad-fields-requires : tie.Need-bad-fields-requires Inv-loop μ-loop
 bad-fields-requires c κs = search needs
 
-returns-2 : tie.Need-returns-2 Inv-loop μ-loop
-returns-2 c = λ h. absurd (false-true h)
+returns : tie.Need-returns Inv-loop μ-loop
+returns c = λ h. absurd (false-true h)
 
 -- both tests of the step passed
-sound : (c : tie.Else2 Inv-loop μ-loop) → (c .before .bad-fields .result ≡ false) × (c .before .before .before .before .before .before .before .loop .next ≤ keyOf (c .before .before .before .before .whole .result))
-sound c = or-iff _ _ (λ h. h, λ h. h) (ltb-iff (keyOf (c .before .before .before .before .whole .result)) (c .before .before .before .before .before .before .before .loop .next)) .0 (c .if2 .left)
+sound : (c : tie.Else1 Inv-loop μ-loop) → (let k = c .before .before .before .before in
+    (c .before .bad-fields .result ≡ false) × (k .before .before .loop .next ≤ keyOf (k .of .result)))
+sound c =
+    let k = c .before .before .before .before in
+    or-iff _ _ (λ h. h, λ h. h) (ltb-iff (keyOf (k .of .result)) (k .before .before .loop .next)) .0 (c .if1 .left)
 
--- the arc that was read is arc i
-here : (c : tie.Else2 Inv-loop μ-loop) → c .before .before .before .before .whole .result ≡ arcAt (c .before .before .before .before .before .before .before .before .before .before .before .args .bytes .now) (c .before .before .before .before .before .before .before .before .before .before .before .args .image .layout) (c .before .before .before .before .before .before .before .loop .i)
-unfolding arcAt
-here c = rw (c .before .before .before .before .before .place2 .ensures .0) at (c .before .before .before .before .whole .ensures)
-
-below : (c : tie.Else2 Inv-loop μ-loop) → c .before .before .before .before .whole .result .to < c .before .before .before .before .before .before .before .before .before .before .before .args .image .synchronizers
-below c = to-below (c .before .before .before .before .whole .result) (c .before .before .before .before .before .before .before .before .before .before .before .args .image .synchronizers) (sym (c .before .bad-fields .ensures) ∙ sound c .0)
+below : (c : tie.Else1 Inv-loop μ-loop) → (let k = c .before .before .before .before in
+    k .of .result .to < k .before .before .before .before .args .image .synchronizers)
+below c =
+    let k = c .before .before .before .before in
+    to-below (k .of .result) (k .before .before .before .before .args .image .synchronizers) (sym (c .before .bad-fields .ensures) ∙ sound c .0)
 
 add-next : tie.Need-add-next Inv-loop μ-loop
 add-next c = omega (arith, below c)
@@ -80,17 +72,19 @@ loop-less c = omega arith
 loop-again : tie.Need-loop-again Inv-loop μ-loop
 unfolding badArc
 loop-again c =
-    let x = c .before .before .before .before .before .before .before .before .before .before .before .args in
-    let r = c .before .before .before .before .before .before .before .loop in
+    let k = c .before .before .before .before in
+    let x = k .before .before .before .before .args in
+    let r = k .before .before .loop in
+    let here = k .of .ensures in
     let q : r .i + 1 - 1 ≡ r .i = omega arith in (
-      omega (arith, c .before .before .before .before .before .before .loop-test .taken),
-      below-more _ _ (r .inv .1) (rw (← here c) (sym (c .before .bad-fields .ensures) ∙ sound c .0)),
-      below-more _ _ (r .inv .2) (in-order (x .bytes .now) (x .image) (r .i) (r .next) (rw (← here c) (omega arith)) (r .inv .3) (rw (← here c) (sound c .1))),
-      λ _. rw (q, ← here c) refl,
+      omega arith,
+      below-more _ _ (r .inv .1) (rw (← here) (sym (c .before .bad-fields .ensures) ∙ sound c .0)),
+      below-more _ _ (r .inv .2) (in-order (x .bytes .now) (x .image) (r .i) (r .next) (rw (← here) (omega arith)) (r .inv .3) (rw (← here) (sound c .1))),
+      λ _. rw (q, ← here) refl,
     )
 
-returns-3 : tie.Need-returns-3 Inv-loop μ-loop
-returns-3 c =
+returns-2 : tie.Need-returns-2 Inv-loop μ-loop
+returns-2 c =
     let r = c .before .loop in
     let whole = c .loop-test .left in
     λ _. (lowest-none _ _ (λ j l. r .inv .1 j (omega (arith, whole))), lowest-none _ _ (λ j l. r .inv .2 j (omega (arith, whole))))
@@ -101,19 +95,16 @@ arcs-good-spec =
     (tie.spec
     Inv-loop
     μ-loop
-    place-requires
-    returns
     loop-holds
-    place-requires-2
-    whole-requires
+    of-requires
     cast-key
     mul-key
     cast-key-2
     add-key
     bad-fields-requires
-    returns-2
+    returns
     add-next
     add-i
     loop-less
     loop-again
-    returns-3)
+    returns-2)

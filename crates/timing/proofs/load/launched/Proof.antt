@@ -10,22 +10,22 @@ use Rattle.timing.proofs.load.launched.Statement.{statement}
 use Rattle.timing.proofs.load.launched.Tie as tie
 
 -- the synchronizer's phase is one of the circuit's
-known : (c : tie.After-read) →
-    (c .read .result .phase < circuitOf (c .before .before .args .bytes .now) .phases) × (c .read .result .phase < 16)
-known c = let e = c .before .before .pre in phase-known _ (e .0) _ (e .1 .0) _ (e .1 .1 .0) _ (c .read .ensures)
+known : (c : tie.After-of) →
+    (c .of .result .phase < circuitOf (c .before .before .args .bytes .now) .phases) × (c .of .result .phase < 16)
+known c = let e = c .before .before .pre in phase-known _ (e .0) _ (e .1 .0) _ (e .1 .1 .0) _ (c .of .ensures)
 
 -- and the table has how long it is active
-active : (c : tie.After-read) →
-    getD (c .before .before .args .active .now) (c .read .result .phase) 0 ≡ circuitOf (c .before .before .args .bytes .now) .active (c .read .result .phase)
+active : (c : tie.After-of) →
+    getD (c .before .before .args .active .now) (c .of .result .phase) 0 ≡ circuitOf (c .before .before .args .bytes .now) .active (c .of .result .phase)
 active c = c .before .before .pre .1 .1 .1 .holds _ (known c .0)
 
-small : (c : tie.After-read) →
-    (getD (c .before .before .args .active .now) (c .read .result .phase) 0 ≤ c .before .before .args .image .cycle)
-    × (getD (c .before .before .args .active .now) (c .read .result .phase) 0 ≤ 1000000000)
-small c = let e = c .before .before .pre in active-known _ (e .0) _ (e .1 .0) _ (e .1 .1 .0) _ (c .read .ensures) _ (active c)
+small : (c : tie.After-of) →
+    (getD (c .before .before .args .active .now) (c .of .result .phase) 0 ≤ c .before .before .args .image .cycle)
+    × (getD (c .before .before .args .active .now) (c .of .result .phase) 0 ≤ 1000000000)
+small c = let e = c .before .before .pre in active-known _ (e .0) _ (e .1 .0) _ (e .1 .1 .0) _ (c .of .ensures) _ (active c)
 
-read-requires : tie.Need-read-requires
-read-requires c κs = search needs
+of-requires : tie.Need-of-requires
+of-requires c κs = search needs
 
 cast-raised : tie.Need-cast-raised
 cast-raised c = search needs
@@ -55,8 +55,8 @@ returns : tie.Need-returns
 returns c =
     let k = c .before .before .before .before .before .before in
     let e = k .before .before .pre in (
-      launched-latch _ (e .0) _ (e .1 .0) _ (e .1 .1 .0) _ (k .read .ensures) (c .before .before .before .if1 .taken) _ (active k),
-      noted-known _ (e .0) _ (e .1 .0) _ (e .1 .1 .0) _ (k .read .ensures),
+      launched-latch _ (e .0) _ (e .1 .0) _ (e .1 .1 .0) _ (k .of .ensures) (c .before .before .before .if1 .taken) _ (active k),
+      noted-known _ (e .0) _ (e .1 .0) _ (e .1 .1 .0) _ (k .of .ensures),
     )
 
 cast-t18 : tie.Need-cast-t18
@@ -66,15 +66,15 @@ returns-2 : tie.Need-returns-2
 returns-2 c =
     let k = c .before .before .before .before in
     let e = k .before .before .pre in (
-      launched-flop _ (e .0) _ (e .1 .0) _ (e .1 .1 .0) _ (k .read .ensures) (c .before .if1 .left),
-      noted-known _ (e .0) _ (e .1 .0) _ (e .1 .1 .0) _ (k .read .ensures),
+      launched-flop _ (e .0) _ (e .1 .0) _ (e .1 .1 .0) _ (k .of .ensures) (c .before .if1 .left),
+      noted-known _ (e .0) _ (e .1 .0) _ (e .1 .1 .0) _ (k .of .ensures),
     )
 
 pub launched-spec : {M : Type 1} → statement M
 launched-spec =
     tie.close
     (tie.spec
-    read-requires
+    of-requires
     cast-raised
     add-raised
     cast-t10

@@ -10,28 +10,28 @@ use Rattle.timing.proofs.load.led.Statement.{statement}
 use Rattle.timing.proofs.load.led.Tie as tie
 
 -- of the arc's two ends: their phases, when these close, and the delays of the one that it leaves
-abbrev left : tie.After-read → ℕ
-left c = getD (c .before .before .args .phase .now) (c .read .result .from) 0
+abbrev left : tie.After-of → ℕ
+left c = getD (c .before .before .args .phase .now) (c .of .result .from) 0
 
-abbrev entered : tie.After-read → ℕ
-entered c = getD (c .before .before .args .phase .now) (c .read .result .to) 0
+abbrev entered : tie.After-of → ℕ
+entered c = getD (c .before .before .args .phase .now) (c .of .result .to) 0
 
-abbrev closes : tie.After-read → ℕ → ℕ
+abbrev closes : tie.After-of → ℕ → ℕ
 closes c p = getD (c .before .before .args .closing .now) p 0
 
-ends : (c : tie.After-read) →
-    Ends (circuitOf (c .before .before .args .bytes .now)) (c .before .before .args .image .cycle) (c .read .result) (left c) (entered c)
-    (closes c (left c)) (closes c (entered c)) (getD (c .before .before .args .least .now) (c .read .result .from) 0)
-    (getD (c .before .before .args .greatest .now) (c .read .result .from) 0)
-ends c = let e = c .before .before .pre in ends-known _ (e .0) _ (e .1 .0) _ (e .1 .1 .0) _ (c .read .ensures) _ _ _ _ (e .1 .1 .1)
+ends : (c : tie.After-of) →
+    Ends (circuitOf (c .before .before .args .bytes .now)) (c .before .before .args .image .cycle) (c .of .result) (left c) (entered c)
+    (closes c (left c)) (closes c (entered c)) (getD (c .before .before .args .least .now) (c .of .result .from) 0)
+    (getD (c .before .before .args .greatest .now) (c .of .result .from) 0)
+ends c = let e = c .before .before .pre in ends-known _ (e .0) _ (e .1 .0) _ (e .1 .1 .0) _ (c .of .ensures) _ _ _ _ (e .1 .1 .1)
 
 -- once the shift is known
 back : (c : tie.After-shift) → (c .shift .result ≤ c .before .before .before .before .before .before .before .before .before .args .image .cycle) × (c .before .before .before .before .before .before .before .before .before .args .image .cycle ≤ 1000000000)
 back c = let k = c .before .before .before .before .before .before .before in let e = k .before .before .pre in
-    back-known _ (e .0) _ (e .1 .0) _ (e .1 .1 .0) _ (k .read .ensures) _ _ _ _ (e .1 .1 .1) _ (shifted (ends k .shifts) (c .shift .ensures))
+    back-known _ (e .0) _ (e .1 .0) _ (e .1 .1 .0) _ (k .of .ensures) _ _ _ _ (e .1 .1 .1) _ (shifted (ends k .shifts) (c .shift .ensures))
 
-read-requires : tie.Need-read-requires
-read-requires c κs = search needs
+of-requires : tie.Need-of-requires
+of-requires c κs = search needs
 
 cast-from : tie.Need-cast-from
 cast-from c = omega (arith, ends (c .before) .from)
@@ -72,47 +72,44 @@ sub-back c = back c .0
 narrow-requires : tie.Need-narrow-requires
 narrow-requires c κs = omega (arith, ends (c .before .before .before .before .before .before .before) .from)
 
-narrow-requires-2 : tie.Need-narrow-requires-2
-narrow-requires-2 c κs = omega (arith, ends (c .before .before .before .before .before .before .before .before) .to)
-
 mul-t21 : tie.Need-mul-t21
-mul-t21 c = omega (arith, ends (c .before .before .before .before .before .before .before .before .before) .from)
+mul-t21 c = omega (arith, ends (c .before .before .before .before .before .before .before .before) .from)
 
 element-copy-out-t20 : tie.Need-element-copy-out-t20
-element-copy-out-t20 c = omega (arith, ends (c .before .before .before .before .before .before .before .before .before) .from)
+element-copy-out-t20 c = omega (arith, ends (c .before .before .before .before .before .before .before .before) .from)
 
 add-t30 : tie.Need-add-t30
-add-t30 c = omega (arith, ends (c .before .before .before .before .before .before .before .before .before .before .before) .late)
+add-t30 c = omega (arith, ends (c .before .before .before .before .before .before .before .before .before .before) .late)
 
 add-t25 : tie.Need-add-t25
-add-t25 c = omega (arith, ends (c .before .before .before .before .before .before .before .before .before .before .before) .late, back (c .before .before .before .before))
+add-t25 c = omega (arith, ends (c .before .before .before .before .before .before .before .before .before .before) .late, back (c .before .before .before))
 
 mul-t27 : tie.Need-mul-t27
-mul-t27 c = omega (arith, ends (c .before .before .before .before .before .before .before .before .before .before .before) .from)
+mul-t27 c = omega (arith, ends (c .before .before .before .before .before .before .before .before .before .before) .from)
 
-element-copy-out-t37 : tie.Need-element-copy-out-t37
-element-copy-out-t37 c = omega (arith, ends (c .before .before .before .before .before .before .before .before .before .before .before) .from)
+element-copy-out-t36 : tie.Need-element-copy-out-t36
+element-copy-out-t36 c = omega (arith, ends (c .before .before .before .before .before .before .before .before .before .before) .from)
+
+add-t37 : tie.Need-add-t37
+add-t37 c = omega (arith, ends (c .before .before .before .before .before .before .before .before .before .before .before .before) .early)
 
 add-t38 : tie.Need-add-t38
-add-t38 c = omega (arith, ends (c .before .before .before .before .before .before .before .before .before .before .before .before .before) .early)
-
-add-t39 : tie.Need-add-t39
-add-t39 c = omega (arith, ends (c .before .before .before .before .before .before .before .before .before .before .before .before .before) .early, back (c .before .before .before .before .before .before))
+add-t38 c = omega (arith, ends (c .before .before .before .before .before .before .before .before .before .before .before .before) .early, back (c .before .before .before .before .before))
 
 returns : tie.Need-returns
 returns c =
-    let k = c .before .before .before .before .before .before .before .before .before .before .before .before .before in
+    let k = c .before .before .before .before .before .before .before .before .before .before .before .before in
     let e = k .before .before .pre in
-    let s = shifted (ends k .shifts) (c .before .before .before .before .before .before .shift .ensures) in (
-      rw (c .before .before .before .before .before .narrow .ensures) (led-known _ (e .0) _ (e .1 .0) _ (e .1 .1 .0) _ (k .read .ensures) _ _ _ _ (e .1 .1 .1) _ s),
-      rw (c .before .before .before .before .narrow2 .ensures) (target-known _ (e .0) _ (e .1 .0) _ (e .1 .1 .0) _ (k .read .ensures) _ _ _ _ (e .1 .1 .1)),
+    let s = shifted (ends k .shifts) (c .before .before .before .before .before .shift .ensures) in (
+      rw (c .before .before .before .before .narrow .ensures) (led-known _ (e .0) _ (e .1 .0) _ (e .1 .1 .0) _ (k .of .ensures) _ _ _ _ (e .1 .1 .1) _ s),
+      target-known _ (e .0) _ (e .1 .0) _ (e .1 .1 .0) _ (k .of .ensures) _ _ _ _ (e .1 .1 .1),
     )
 
 pub led-spec : {M : Type 1} → statement M
 led-spec =
     tie.close
     (tie.spec
-    read-requires
+    of-requires
     cast-from
     cast-to
     element-copy-out-p
@@ -126,13 +123,12 @@ led-spec =
     shift-requires
     sub-back
     narrow-requires
-    narrow-requires-2
     mul-t21
     element-copy-out-t20
     add-t30
     add-t25
     mul-t27
-    element-copy-out-t37
+    element-copy-out-t36
+    add-t37
     add-t38
-    add-t39
     returns)
