@@ -2,7 +2,6 @@
 pub mod Best
 pub mod Models
 pub mod Filled
-pub mod Flags
 pub mod Nearer
 pub mod Trails
 pub mod Orders

@@ -11,7 +11,8 @@ use Rattle.ticks.proofs.Ints.{ints, sum, apart}
 use Rattle.ticks.proofs.Raised.{span, lower-max, lower-min}
 use Rattle.flow.specs.Flow.{Flow, Good, Side, late, early, When, none, at, pick, join, brings, into, arrival, departs, next}
 use Rattle.tables.specs.Models.{Models}
-use Rattle.tables.specs.Net.{Net, brought, better, unseen, best, degree, arrivalN, departing, departN, Ranged}
+use Rattle.tables.specs.Net.{Net, brought, better, best, degree, arrivalN, departing, departN, Ranged}
+use Rattle.tables.proofs.Best.{first-better}
 
 -- what k arcs give: none, or a time
 abbrev whenOf : ℕ → ℕ → When
@@ -25,11 +26,6 @@ lowered D i = lower (D i)
 better-lower : (s : Side) (a b : ℕ) → lower (better s a b) ≡ pick s (lower a) (lower b)
 better-lower late a b = lower-max a b
 better-lower early a b = lower-min a b
-
--- the first arc is taken
-first-better : (s : Side) (b : ℕ) → b < 9223372036854775808 → better s (unseen s) b ≡ b
-first-better late b l = omega arith
-first-better early b l = omega arith
 
 module _ (s : Side) (n : Net) (f : Flow) (good : Good f) (models : Models n f) (D : ℕ → ℕ) (ranged : Ranged (f .nodes) D) where
   pub brought-lower : (a : ℕ) → a < f .arcs → lower (brought (n .arcs) D a) ≡ brings f (lowered D) a

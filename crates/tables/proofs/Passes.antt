@@ -1,6 +1,6 @@
 -- A pass, one node after the other: each is raised to its arrival, if that is later, and what holds of the nodes tried so far holds of one more.
 use mathlib.Core.Path.{_≡_, refl, ap, _∙_}
-use mathlib.Core.Bool.{Bool, false, _||_}
+use mathlib.Core.Bool.{Bool, true, false, not}
 use mathlib.Core.List.{List}
 use Prim.Native.Nat.{ℕ, suc, _+_, _-_, _<_, _≤_}
 use native.Mathlib.Omega.{arith}
@@ -8,13 +8,12 @@ use native.Mathlib.Decide.{ℕ-discrete}
 use lib.ListN.{length, getD, set, length-set}
 use lib.Seq.{getD-set-same, getD-set-other, set-getD}
 use Rattle.flow.specs.Flow.{Side}
-use Rattle.tables.specs.Net.{Net, timesOf, Ranged}
-use Rattle.tables.specs.Raise.{raised, Raise, raise, Lifted, Decides, Room, Sweepable}
+use Rattle.tables.specs.Net.{Net, timesOf, arrivalN, Ranged}
+use Rattle.tables.specs.Raise.{raised, Raise, raise, Lifted, Brings, Room, Sweepable}
 use Rattle.tables.specs.Parents.{Course}
 use Rattle.tables.specs.Listing.{Order}
-use Rattle.tables.specs.Passing.{Same, Still, Swept, Passing}
-use Rattle.tables.proofs.Raising.{raised-mono, raise-rises, raised-still, room-raise}
-use Rattle.tables.proofs.Flags.{or-first, or-second}
+use Rattle.tables.specs.Passing.{toOrFro, Same, Still, Rested, Swept, Sweep, Passing}
+use Rattle.tables.proofs.Raising.{raised-mono, raise-rises, raised-still, room-less, room-raise}
 use Rattle.tables.proofs.Stamping.{stamped, parented-more}
 
 -- in a pass there is room for all that is left of it
@@ -22,13 +21,13 @@ pub sweep-room : {s : Side} {n : Net} {l : ℕ} {D node : ℕ → ℕ} {x : ℕ}
 sweep-room {l = l} {x = x} h p k = let e : l - x + x ≡ l = omega arith in p .room (l - x) (rw e h)
 
 module _ (s : Side) (n : Net) (l : ℕ) (t : Sweepable n l) where
-  pub sweep-none : (node : ℕ → ℕ) (departs : List ℕ) → length departs ≡ 512 → Swept s n l (timesOf departs) node 0 departs
-  sweep-none node departs e = record {
+  pub sweep-none : (node : ℕ → ℕ) (departs : List ℕ) (start : ℕ) → length departs ≡ 512 → Rested s n (timesOf departs) node start → Swept s n l (timesOf departs) node start departs
+  sweep-none node departs start e rested = record {
     long = e;
     onward = λ launch h. h;
     later = λ j h. omega arith;
-    tried = λ z k. let o : ⊥ = omega arith in absurd o;
-    room = λ b h. let z : b + 0 ≡ b = omega arith in rw z at h;
+    tried = λ z k. omega (arith, rested z k);
+    room = λ b h. room-less b (omega arith) h;
   }
 
   module _ (D node : ℕ → ℕ) (x : ℕ) (departs : List ℕ) (here : node x < l) (ranged : Ranged l (timesOf departs))
@@ -68,17 +67,43 @@ module _ (s : Side) (n : Net) (l : ℕ) (t : Sweepable n l) where
           room-raise s n l t b step (p .room (suc b) (rw e at h));
     }
 
-    -- raised in place; `changed` says whether any was raised
-    pub swept-on : (changed : Bool) → (changed ≡ false → Same l D (timesOf departs)) → {b : Bool} {next : List ℕ} → Lifted s n i departs b next →
-        Swept s n l D node (x + 1) next × ((changed || b) ≡ false → Same l D (timesOf next))
-    swept-on changed same {b} h = rw (h .stored) (
-      sweep-more,
-      λ e j k. let q : after ≡ departs = ap (set departs i) (h .stays (or-second changed b e)) ∙ set-getD departs i 0 in rw q (same (or-first changed b e) j k),
-    )
-
     -- a node that stays
     pub sweep-stays : raised s n (timesOf departs) i ≡ getD departs i 0 → Swept s n l D node (x + 1) departs
     sweep-stays e = let q : after ≡ departs = ap (set departs i) e ∙ set-getD departs i 0 in rw q at sweep-more
+
+  -- places: where a node was raised none rests yet; where it stays it rests too
+  pub sweep-start : (node : ℕ → ℕ) (departs : List ℕ) (start : ℕ) → start ≤ l → length departs ≡ 512 → Rested s n (timesOf departs) node start →
+      Sweep s n l (timesOf departs) node start departs l
+  sweep-start node departs start few e rested = record {
+    swept = sweep-none node departs start e rested;
+    rests = λ z h k. let o : ⊥ = omega arith in absurd o;
+    same = λ h j k. refl;
+  }
+
+  module _ (D node : ℕ → ℕ) (x : ℕ) (departs next : List ℕ) (last : ℕ) (here : node x < l) (more : x < l) (ranged : Ranged l (timesOf departs))
+      (p : Sweep s n l D node x departs last) where
+    pub sweep-rises : Lifted s n (node x) departs true next → Sweep s n l D node (x + 1) next x
+    sweep-rises h = rw (h .stored) (record {
+      swept = sweep-more D node x departs here ranged (p .swept);
+      rests = λ z k o. let e : ⊥ = omega arith in absurd e;
+      same = λ k. let e : ⊥ = omega arith in absurd e;
+    })
+
+    pub sweep-rests : Lifted s n (node x) departs false next → Sweep s n l D node (x + 1) next last
+    sweep-rests h =
+        let e = h .stays refl in
+        let q : next ≡ departs = h .stored ∙ ap (set departs (node x)) e ∙ set-getD departs (node x) 0 in
+        rw q (record {
+          swept = sweep-stays D node x departs here ranged (p .swept) e;
+          rests = λ z k o. elim (ℕ-discrete z x) [ yes q ↦ rw q e | no q ↦ p .rests z k (omega arith) ];
+          same = p .same;
+        })
+
+  -- the pass that goes back starts at the last place that was raised
+  pub sweep-back : (forth : Bool) (D : ℕ → ℕ) (departs : List ℕ) (last : ℕ) → last < l → Sweep s n l D (toOrFro forth l) l departs last →
+      Rested s n (timesOf departs) (toOrFro (not forth) l) (l - 1 - last)
+  sweep-back true D departs last h p z k = p .rests (l - 1 - z) (omega arith) (omega arith)
+  sweep-back false D departs last h p z k = let e : l - 1 - (l - 1 - z) ≡ z = omega arith in rw e at (p .rests (l - 1 - z) (omega arith) (omega arith))
 
   -- a pass over all nodes that raised none
   pub sweep-still : (D node : ℕ → ℕ) (departs : List ℕ) → Order l node → Swept s n l D node l departs → Same l D (timesOf departs) → Still s n l (timesOf departs)
@@ -89,7 +114,7 @@ module _ (s : Side) (n : Net) (l : ℕ) (t : Sweepable n l) where
   pub passing-none : (node : ℕ → ℕ) (departs parents : List ℕ) → length departs ≡ 512 → length parents ≡ 512 →
       Passing s n l (timesOf departs) (timesOf parents) node 0 departs parents l
   passing-none node departs parents e f = record {
-    swept = sweep-none node departs e;
+    swept = sweep-none node departs 0 e (λ z k. let o : ⊥ = omega arith in absurd o);
     long = f;
     course = λ base c. c;
     rose = λ k. let o : ⊥ = omega arith in absurd o;
@@ -108,7 +133,7 @@ module _ (s : Side) (n : Net) (l : ℕ) (t : Sweepable n l) where
     }
 
     module _ (a : ℕ) (up : getD departs (node x) 0 < raised s n (timesOf departs) (node x))
-        (d : Decides s (n .arcs) (timesOf departs) (n .first (node x)) (n .first (node x + 1)) a) where
+        (d : Brings (n .arcs) (timesOf departs) (n .first (node x)) (n .first (node x + 1)) (arrivalN s n (timesOf departs) (node x)) a) where
       abbrev lifted : List ℕ
       lifted = set departs (node x) (raised s n (timesOf departs) (node x))
 

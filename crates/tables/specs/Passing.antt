@@ -29,13 +29,23 @@ Still s n l D = (i : ℕ) → i < l → raised s n D i ≡ D i
 abbrev pub Onward : Side → Net → ℕ → (ℕ → ℕ) → (ℕ → ℕ) → Type 0
 Onward s n l D E = (launch : ℕ → ℕ) → Risen s n l launch D → Risen s n l launch E
 
--- of a pass over the given nodes x were tried, from the departures D on
+-- the nodes at the places before `start` cannot be raised
+abbrev pub Rested : Side → Net → (ℕ → ℕ) → (ℕ → ℕ) → ℕ → Type 0
+Rested s n D node start = (z : ℕ) → z < start → raised s n D (node z) ≡ D (node z)
+
+-- of a pass over the given nodes x were tried, or rested, from the departures D on
 pub record Swept (s : Side) (n : Net) (l : ℕ) (D node : ℕ → ℕ) (x : ℕ) (departs : List ℕ) : Type 0 where
   pub long : length departs ≡ 512
   pub onward : Onward s n l D (timesOf departs)
   pub later : (j : ℕ) → j < l → D j ≤ getD departs j 0
   pub tried : (z : ℕ) → z < x → raised s n D (node z) ≤ getD departs (node z) 0
   pub room : (b : ℕ) → Room l (b + x) D → Room l b (timesOf departs)
+
+-- and `last` is the last place at which one was raised, or l: those behind it rest
+pub record Sweep (s : Side) (n : Net) (l : ℕ) (D node : ℕ → ℕ) (x : ℕ) (departs : List ℕ) (last : ℕ) : Type 0 where
+  pub swept : Swept s n l D node x departs
+  pub rests : (z : ℕ) → last < z → z < x → raised s n (timesOf departs) (node z) ≡ getD departs (node z) 0
+  pub same : l ≤ last → Same l D (timesOf departs)
 
 -- the first passes, which note nothing: they may have settled, and leave room for l passes more
 pub record Settling (s : Side) (n : Net) (l : ℕ) (D : ℕ → ℕ) (departs : List ℕ) (done : Bool) : Type 0 where

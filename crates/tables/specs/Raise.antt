@@ -6,7 +6,7 @@ use Prim.Native.Nat.{ℕ, zero, suc, _+_, _-_, _*_, _<_, _≤_}
 use lib.ListN.{getD, set}
 use Rattle.ticks.specs.Raised.{RAISE}
 use Rattle.flow.specs.Flow.{Side}
-use Rattle.tables.specs.Net.{Arcs, Net, timesOf, brought, better, best, degree, arrivalN, departing, Shaped, Ranged}
+use Rattle.tables.specs.Net.{Arcs, Net, timesOf, brought, degree, arrivalN, departing, Shaped, Ranged}
 
 -- when node i departs, if it departs no sooner than it does
 unfoldable pub raised : Side → Net → (ℕ → ℕ) → ℕ → ℕ
@@ -39,16 +39,16 @@ pub record Sweepable (n : Net) (l : ℕ) : Type 0 where
   pub shaped : Shaped n l arcs
   pub leads : (a : ℕ) → a < arcs → n .arcs .lead a < RAISE
 
--- the flag says whether x would be picked before y
-pub data Beats (s : Side) (x y : ℕ) : Bool → Type 0 where
-  beats : better s y x ≡ x → Beats s x y true
-  yields : better s y x ≡ y → Beats s x y false
+-- one of the arcs from `from` up to `to` brings the time
+abbrev pub Given : Arcs → (ℕ → ℕ) → ℕ → ℕ → ℕ → Type 0
+Given g D from to time = (a : ℕ) × (from ≤ a) × (a < to) × (brought g D a ≡ time)
 
--- of the arcs from `from` up to `to`, a decides: it brings the time that is picked
-pub record Decides (s : Side) (g : Arcs) (D : ℕ → ℕ) (from to a : ℕ) : Type 0 where
+-- a is the first of them that does
+pub record Brings (g : Arcs) (D : ℕ → ℕ) (from to time a : ℕ) : Type 0 where
   pub above : from ≤ a
   pub below : a < to
-  pub brings : brought g D a ≡ best s g D from (to - from)
+  pub brings : brought g D a ≡ time
+  pub first : (b : ℕ) → from ≤ b → b < a → brought g D b ≡ time → ⊥
 
 -- node i was raised in place; the flag says whether that changed it
 pub record Lifted (s : Side) (n : Net) (i : ℕ) (before : List ℕ) (changed : Bool) (after : List ℕ) : Type 0 where
@@ -56,8 +56,8 @@ pub record Lifted (s : Side) (n : Net) (i : ℕ) (before : List ℕ) (changed : 
   pub rises : changed ≡ true → getD before i 0 < raised s n (timesOf before) i
   pub stays : changed ≡ false → raised s n (timesOf before) i ≡ getD before i 0
 
--- node i was tried: it stays, or it was raised and the arc that decided is noted
+-- node i was tried: it stays, or it was raised and the arc that brought its arrival is noted
 pub data Tried (s : Side) (n : Net) (i : ℕ) (departs parents : List ℕ) : Bool → List ℕ → List ℕ → Type 0 where
   stays : raised s n (timesOf departs) i ≡ getD departs i 0 → Tried s n i departs parents false departs parents
-  rises : (a : ℕ) → getD departs i 0 < raised s n (timesOf departs) i → Decides s (n .arcs) (timesOf departs) (n .first i) (n .first (i + 1)) a →
+  rises : (a : ℕ) → getD departs i 0 < raised s n (timesOf departs) i → Brings (n .arcs) (timesOf departs) (n .first i) (n .first (i + 1)) (arrivalN s n (timesOf departs) i) a →
       Tried s n i departs parents true (set departs i (raised s n (timesOf departs) i)) (set parents i a)

@@ -2,7 +2,6 @@
 -- walks over arcs, and passes
 pub mod Reach
 pub mod Lengths
-pub mod Picked
 -- loading
 pub mod Read
 pub mod Shifts

@@ -4,6 +4,7 @@ use mathlib.Core.List.{List}
 use Prim.Native.Nat.{ℕ, _<_, _≤_}
 use native.Mathlib.Omega.{arith}
 use lib.ListN.{getD}
+use Rattle.ticks.specs.Raised.{RAISE}
 use Rattle.tables.specs.Net.{Net, timesOf, Shaped, Ranged}
 use Rattle.timing.specs.Ready.{Reachable}
 
@@ -17,3 +18,8 @@ reach n source departs l m to same s r h =
       low = λ a k. r .low (getD source a 0) (inside a k);
       high = λ a k. r .high (getD source a 0) (inside a k);
     }
+
+-- of one arc
+pub reach-at : {source departs : List ℕ} {m a : ℕ} → Reachable source departs m → a < m →
+    ((a < 2048) × (getD source a 0 < 512)) × ((RAISE ≤ getD departs (getD source a 0) 0) × (getD departs (getD source a 0) 0 < 4611686018427387904))
+reach-at {a = a} r h = ((omega (arith, r .few), r .inside a h), (r .low a h, r .high a h))

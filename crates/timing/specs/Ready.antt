@@ -4,6 +4,7 @@ use Prim.Native.Nat.{ℕ, _≤_, _<_}
 use lib.ListN.{getD}
 use Rattle.ticks.specs.Raised.{RAISE}
 use Rattle.tables.specs.Net.{Net, Shaped, Ranged}
+use Rattle.tables.specs.Raise.{Sweepable}
 
 -- each of the first m arcs leaves a node with a time that can be reckoned with
 pub record Reachable (source departs : List ℕ) (m : ℕ) : Type 0 where
@@ -28,4 +29,11 @@ pub record Works (n : Net) (D : ℕ → ℕ) (l : ℕ) : Type 0 where
 pub record WorksAt (n : Net) (D : ℕ → ℕ) (i : ℕ) : Type 0 where
   pub nodes : ℕ
   pub works : Works n D nodes
+  pub here : i < nodes
+
+-- i is one of the nodes that passes go over
+pub record SweepsAt (n : Net) (D : ℕ → ℕ) (i : ℕ) : Type 0 where
+  pub nodes : ℕ
+  pub tables : Sweepable n nodes
+  pub ranged : Ranged nodes D
   pub here : i < nodes

@@ -4,10 +4,11 @@ ghost use mathlib.Core.Path.{_≡_};
 ghost use Prim.Native.Nat.{_<_, _≤_};
 ghost use lib.ListN.{length};
 ghost use Rattle.tables.specs.Net.{sideOf, timesOf, arcsOf, webOf};
-ghost use Rattle.tables.specs.Raise.{Beats, Decides, Tried, Room, Sweepable};
+ghost use Rattle.tables.specs.Raise.{Given, Brings, Tried, Room, Sweepable};
 ghost use Rattle.tables.specs.Listing.{Order};
 ghost use Rattle.tables.specs.Passing.{toOrFro, Passing, Ended};
-ghost use Rattle.timing.specs.Ready.{Reachable, WorksAt};
+ghost use Rattle.timing.specs.Ready.{Reachable, SweepsAt};
+use crate::arrive::arrival;
 use crate::arrive::bring;
 use crate::arrive::index;
 use crate::arrive::narrow;
@@ -17,39 +18,28 @@ use crate::ring::close;
 use crate::sweeps::settle;
 use crate::sweeps::turn;
 
-// Is x picked before y?
-fn beats(late: bool, x: u64, y: u64) -> bool
-    ensures { λ r. ⌜ Beats (sideOf late) x y r ⌝ }
-{
-    if late { y < x } else { x < y }
-}
-
-// Of the arcs from `from` up to `to`, the first that brings the time that is picked.
-fn deciding(
-    late: bool,
+// Of the arcs from `from` up to `to`, the first that brings the time. One does.
+fn bringer(
     source: &[u16; 2048],
     lead: &[u32; 2048],
     cycle: u32,
     departs: &[u64; 512],
     from: usize,
     to: usize,
+    time: u64,
 ) -> usize
-    requires { ⌜ from < to ⌝ }
     requires { ⌜ Reachable (now source) (now departs) to ⌝ }
-    ensures { λ r. ⌜ Decides (sideOf late) (arcsOf (now (source .entry)) (now (lead .entry)) cycle) (timesOf (now (departs .entry))) from to r ⌝ }
+    requires { ⌜ Given (arcsOf (now source) (now lead) cycle) (timesOf (now departs)) from to time ⌝ }
+    ensures { λ r. ⌜ Brings (arcsOf (now (source .entry)) (now (lead .entry)) cycle) (timesOf (now (departs .entry))) from to time r ⌝ }
 {
-    let mut arc = from;
-    let mut best = bring(source, lead, cycle, departs, from);
-    let mut a = from + 1;
+    let mut a = from;
     while a < to {
-        let time = bring(source, lead, cycle, departs, a);
-        if beats(late, time, best) {
-            best = time;
-            arc = a;
+        if bring(source, lead, cycle, departs, a) == time {
+            return a;
         }
         a += 1;
     }
-    arc
+    a
 }
 
 // Raises synchronizer i to its arrival, where that is later than its departure, and notes the arc.
@@ -64,7 +54,7 @@ fn lift(
     departs: &mut [u64; 512],
     parents: &mut [u16; 512],
 ) -> bool
-    requires { ⌜ WorksAt (webOf (arcsOf (now source) (now lead) cycle) (now first) (now latch)) (timesOf (now departs)) i ⌝ }
+    requires { ⌜ SweepsAt (webOf (arcsOf (now source) (now lead) cycle) (now first) (now latch)) (timesOf (now departs)) i ⌝ }
     ensures { λ r. ⌜ Tried (sideOf late) (webOf (arcsOf (now (source .entry)) (now (lead .entry)) cycle) (now (first .entry)) (now (latch .entry))) i (now (departs .entry)) (now (parents .entry)) r (now (departs .exit)) (now (parents .exit)) ⌝ }
 {
     if latch[i] != 1 {
@@ -75,11 +65,11 @@ fn lift(
     if to <= from {
         return false;
     }
-    let arc = deciding(late, source, lead, cycle, departs, from, to);
-    let time = bring(source, lead, cycle, departs, arc);
+    let time = arrival(late, source, lead, cycle, departs, from, to);
     if time <= departs[i] {
         return false;
     }
+    let arc = bringer(source, lead, cycle, departs, from, to, time);
     departs[i] = time;
     parents[i] = narrow(arc);
     true

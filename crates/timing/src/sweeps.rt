@@ -1,13 +1,12 @@
 // The first passes. Each tries every synchronizer, by number, to and fro: first to last, then last to first. They note nothing, and most
 // circuits settle in them.
 ghost use mathlib.Core.Path.{_≡_};
-ghost use mathlib.Core.Bool.{false};
-ghost use Prim.Native.Nat.{_<_};
+ghost use Prim.Native.Nat.{_<_, _≤_};
 ghost use lib.ListN.{length};
 ghost use Rattle.tables.specs.Net.{sideOf, timesOf, arcsOf, webOf};
 ghost use Rattle.tables.specs.Raise.{Lifted, Room, Sweepable};
-ghost use Rattle.tables.specs.Passing.{toOrFro, Same, Swept, Settling};
-ghost use Rattle.timing.specs.Ready.{WorksAt};
+ghost use Rattle.tables.specs.Passing.{toOrFro, Rested, Sweep, Settling};
+ghost use Rattle.timing.specs.Ready.{SweepsAt};
 use crate::arrive::arrival;
 use crate::arrive::greater;
 use crate::arrive::index;
@@ -31,7 +30,7 @@ fn raise(
     i: usize,
     departs: &mut [u64; 512],
 ) -> bool
-    requires { ⌜ WorksAt (webOf (arcsOf (now source) (now lead) cycle) (now first) (now latch)) (timesOf (now departs)) i ⌝ }
+    requires { ⌜ SweepsAt (webOf (arcsOf (now source) (now lead) cycle) (now first) (now latch)) (timesOf (now departs)) i ⌝ }
     ensures { λ r. ⌜ Lifted (sideOf late) (webOf (arcsOf (now (source .entry)) (now (lead .entry)) cycle) (now (first .entry)) (now (latch .entry))) i (now (departs .entry)) r (now (departs .exit)) ⌝ }
 {
     if latch[i] != 1 {
@@ -48,7 +47,7 @@ fn raise(
     before < time
 }
 
-// One pass. Says whether it raised any.
+// One pass, from a place on: what lies before it cannot be raised. Says at which place one was raised last, or l.
 fn sweep(
     late: bool,
     source: &[u16; 2048],
@@ -58,27 +57,31 @@ fn sweep(
     latch: &[u8; 512],
     l: usize,
     forth: bool,
+    start: usize,
     departs: &mut [u64; 512],
-) -> bool
+) -> usize
     requires { ⌜ Sweepable (webOf (arcsOf (now source) (now lead) cycle) (now first) (now latch)) l ⌝ }
     requires { ⌜ Room l l (timesOf (now departs)) × (length (now departs) ≡ 512) ⌝ }
-    ensures { λ r. ⌜ Swept (sideOf late) (webOf (arcsOf (now (source .entry)) (now (lead .entry)) cycle) (now (first .entry)) (now (latch .entry))) l (timesOf (now (departs .entry))) (toOrFro forth l) l (now (departs .exit)) ⌝ }
-    ensures { λ r. ⌜ (r ≡ false → Same l (timesOf (now (departs .entry))) (timesOf (now (departs .exit)))) ⌝ }
+    requires { ⌜ (start ≤ l) × Rested (sideOf late) (webOf (arcsOf (now source) (now lead) cycle) (now first) (now latch)) (timesOf (now departs)) (toOrFro forth l) start ⌝ }
+    ensures { λ r. ⌜ Sweep (sideOf late) (webOf (arcsOf (now (source .entry)) (now (lead .entry)) cycle) (now (first .entry)) (now (latch .entry))) l (timesOf (now (departs .entry))) (toOrFro forth l) l (now (departs .exit)) r ⌝ }
 {
-    let mut changed = false;
-    let mut x: usize = 0;
+    let mut last = l;
+    let mut x = start;
     while x < l {
         let i = turn(forth, l, x);
-        changed = changed | raise(late, source, lead, cycle, first, latch, i, departs);
+        if raise(late, source, lead, cycle, first, latch, i, departs) {
+            last = x;
+        }
         x += 1;
     }
-    changed
+    last
 }
 
 // After so many passes most circuits have settled.
 const PATIENCE: usize = 6;
 
-// Passes until one raises none, but no more than that. Says whether it came to that.
+// Passes until one raises none, but no more than that. Says whether it came to that. Each starts where the one before raised last: what that one tried
+// afterwards it need not try again.
 pub(crate) fn settle(
     late: bool,
     source: &[u16; 2048],
@@ -94,12 +97,26 @@ pub(crate) fn settle(
     ensures { λ r. ⌜ Settling (sideOf late) (webOf (arcsOf (now (source .entry)) (now (lead .entry)) cycle) (now (first .entry)) (now (latch .entry))) l (timesOf (now (departs .entry))) (now (departs .exit)) r ⌝ }
 {
     let mut forth = true;
+    let mut start: usize = 0;
     let mut n: usize = 0;
     while n < PATIENCE {
-        if !sweep(late, source, lead, cycle, first, latch, l, forth, departs) {
+        let last = sweep(
+            late,
+            source,
+            lead,
+            cycle,
+            first,
+            latch,
+            l,
+            forth,
+            start,
+            departs,
+        );
+        if last >= l {
             return true;
         }
         forth = !forth;
+        start = l - 1 - last;
         n += 1;
     }
     false

@@ -60,7 +60,8 @@ lift-requires c κs =
     let here = order-turned (x .forth) (x .l) (timesOf (x .order .now)) (h .0 .1) .nodes (r .x) (c .before .before .before .before .before .loop-test .taken) in
     record {
       nodes = x .l;
-      works = record { arcs = h .0 .0 .arcs; shaped = h .0 .0 .shaped; ranged = room-ranged (sweep-room (h .1 .0) (r .inv .1 .swept) (r .inv .0)) };
+      tables = h .0 .0;
+      ranged = room-ranged (sweep-room (h .1 .0) (r .inv .1 .swept) (r .inv .0));
       here = rw (c .before .before .index .ensures .0, c .before .before .before .before .turn .ensures) here;
     }
 
@@ -88,7 +89,7 @@ loop-again c =
       elim (c .if1 .came) [
         | inl w ↦ (
             let u = tried-rises s n (node (r .x)) (r .departs) (r .parents) o (w .0 .taken) in
-            rw (w .1 ∙ e, u .stored, u .noted) (passing-rises s n (x .l) (h .0 .0) D P node (r .x) (r .departs) (r .parents) (r .last) here ranged (r .inv .1) (u .arc) (u .up) (u .decides)))
+            rw (w .1 ∙ e, u .stored, u .noted) (passing-rises s n (x .l) (h .0 .0) D P node (r .x) (r .departs) (r .parents) (r .last) here ranged (r .inv .1) (u .arc) (u .up) (u .brings)))
         | inr w ↦ (
             let u = tried-stays s n (node (r .x)) (r .departs) (r .parents) o (w .0 .left) in
             rw (w .1, u .1, u .2) (passing-stays s n (x .l) (h .0 .0) D P node (r .x) (r .departs) (r .parents) (r .last) here ranged (r .inv .1) (u .0)))

@@ -20,10 +20,10 @@ element-copy-out-there : tie.Need-element-copy-out-there
 element-copy-out-there c = let h = c .before .before .pre in omega (arith, c .index .ensures .0, h .reachable .inside _ (h .here))
 
 bring-requires : tie.Need-bring-requires
-bring-requires c κs = let h = c .before .before .before .pre in (omega (arith, h .here, h .reachable .few), (h .reachable .inside _ (h .here), (h .reachable .low _ (h .here), h .reachable .high _ (h .here))))
+bring-requires c κs = c .before .before .before .pre
 
 returns : tie.Need-returns
-returns c = rw (← c .bring .ensures .0, ← c .before .before .index .ensures .0)
+returns c = rw (← c .bring .ensures, ← c .before .before .index .ensures .0)
 
 pub hits-spec : {M : Type 1} → statement M
 hits-spec =

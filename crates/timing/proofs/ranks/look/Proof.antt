@@ -7,7 +7,7 @@ use Rattle.tables.specs.Net.{arcsOf, netOf}
 use Rattle.tables.specs.Ranks.{next, known, none}
 use Rattle.tables.proofs.Nearer.{tells-true, tells-false}
 use Rattle.timing.proofs.Reach.{reach}
-use Rattle.timing.proofs.Picked.{off-flag}
+use borrow.Author.Tests.{eqb-true}
 use borrow.Author.Needs.{needs}
 use Rattle.timing.proofs.ranks.look.Statement.{statement}
 use Rattle.timing.proofs.ranks.look.Tie as tie
@@ -25,7 +25,7 @@ element-copy-out-if2 : tie.Need-element-copy-out-if2
 element-copy-out-if2 c = search needs
 
 returns-2 : tie.Need-returns-2
-returns-2 c = none (c .before .before .if1 .left) (λ e g. off-flag _ (c .if2 .taken) e)
+returns-2 c = none (c .before .before .if1 .left) (λ e g. c .if2 .taken (eqb-true _ 1 e))
 
 mul-index : tie.Need-mul-index
 mul-index c = search needs

@@ -63,7 +63,7 @@ arrival-requires c κs =
     let n = webOf (arcsOf (x .source .now) (x .lead .now) (x .cycle)) (x .first .now) (x .latch .now) in
     let D = timesOf (x .departs .now) in
     let e = c .before .before .index2 .ensures .0 in
-    (omega (arith, c .before .if2 .left), reach n (x .source .now) (x .departs .now) (w .nodes) (w .works .arcs) _ (λ a. refl) (w .works .shaped) (w .works .ranged) (omega (arith, e, w .works .shaped .ends (x .i) (w .here))))
+    (omega (arith, c .before .if2 .left), reach n (x .source .now) (x .departs .now) (w .nodes) (w .tables .arcs) _ (λ a. refl) (w .tables .shaped) (w .ranged) (omega (arith, e, w .tables .shaped .ends (x .i) (w .here))))
 
 mul-before : tie.Need-mul-before
 mul-before c = search needs

@@ -6,13 +6,13 @@ use Rattle.timing.proofs.trail.ahead.Statement.{statement}
 use Rattle.timing.proofs.trail.ahead.Tie as tie
 
 bring-requires : tie.Need-bring-requires
-bring-requires c κs = let h = c .pre .0 in (omega (arith, h .here, h .reachable .few), (h .reachable .inside _ (h .here), (h .reachable .low _ (h .here), h .reachable .high _ (h .here))))
+bring-requires c κs = c .pre .0
 
 bring-requires-2 : tie.Need-bring-requires-2
-bring-requires-2 c κs = let h = c .before .pre .1 in (omega (arith, h .here, h .reachable .few), (h .reachable .inside _ (h .here), (h .reachable .low _ (h .here), h .reachable .high _ (h .here))))
+bring-requires-2 c κs = c .before .pre .1
 
 returns : tie.Need-returns
-returns c = is (inl (rw (← c .before .before .bring .ensures .0, ← c .before .bring2 .ensures .0) (c .if1 .taken)))
+returns c = is (inl (rw (← c .before .before .bring .ensures, ← c .before .bring2 .ensures) (c .if1 .taken)))
 
 rank-requires : tie.Need-rank-requires
 rank-requires c κs = let h = c .before .before .before .before .pre .0 in (omega (arith, h .here, h .reachable .few), h .reachable .inside _ (h .here))
@@ -21,18 +21,18 @@ rank-requires-2 : tie.Need-rank-requires-2
 rank-requires-2 c κs = let h = c .before .before .before .before .before .pre .1 in (omega (arith, h .here, h .reachable .few), h .reachable .inside _ (h .here))
 
 returns-2 : tie.Need-returns-2
-returns-2 c = is (inr (rw (← c .before .before .before .before .before .before .bring .ensures .0, ← c .before .before .before .before .before .bring2 .ensures .0) (c .before .before .before .if2 .taken), rw (← c .before .before .rank .ensures .0, ← c .before .rank2 .ensures .0) (c .if3 .taken)))
+returns-2 c = is (inr (rw (← c .before .before .before .before .before .before .bring .ensures, ← c .before .before .before .before .before .bring2 .ensures) (c .before .before .before .if2 .taken), rw (← c .before .before .rank .ensures .0, ← c .before .rank2 .ensures .0) (c .if3 .taken)))
 
 returns-3 : tie.Need-returns-3
 returns-3 c = not λ h. elim h [
-  | inl k ↦ (let e = rw (← c .before .before .before .before .before .before .bring .ensures .0, ← c .before .before .before .before .before .bring2 .ensures .0) at k in omega (arith, e, c .before .before .before .before .if1 .left))
+  | inl k ↦ (let e = rw (← c .before .before .before .before .before .before .bring .ensures, ← c .before .before .before .before .before .bring2 .ensures) at k in omega (arith, e, c .before .before .before .before .if1 .left))
   | inr k ↦ (let e = rw (← c .before .before .rank .ensures .0, ← c .before .rank2 .ensures .0) at (k .1) in omega (arith, e, c .if3 .left))
 ]
 
 returns-4 : tie.Need-returns-4
 returns-4 c = not λ h. elim h [
-  | inl k ↦ (let e = rw (← c .before .before .before .bring .ensures .0, ← c .before .before .bring2 .ensures .0) at k in omega (arith, e, c .before .if1 .left))
-  | inr k ↦ (let e = rw (← c .before .before .before .bring .ensures .0, ← c .before .before .bring2 .ensures .0) at (k .0) in c .if2 .left e)
+  | inl k ↦ (let e = rw (← c .before .before .before .bring .ensures, ← c .before .before .bring2 .ensures) at k in omega (arith, e, c .before .if1 .left))
+  | inr k ↦ (let e = rw (← c .before .before .before .bring .ensures, ← c .before .before .bring2 .ensures) at (k .0) in c .if2 .left e)
 ]
 
 pub ahead-spec : {M : Type 1} → statement M
