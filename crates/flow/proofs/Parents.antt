@@ -14,7 +14,7 @@ use Rattle.ticks.proofs.Ints.{ints, sum}
 use Rattle.ticks.proofs.Order.{compareℤ, ≤ℤ-eq}
 use Rattle.flow.specs.Flow.{Flow, late, brings, round}
 use Rattle.flow.specs.Walk.{routeBack, gain, GrowingRing}
-use Rattle.flow.proofs.Below.{Fresh, pigeons}
+use Rattle.flow.proofs.Below.{Fresh}
 use Rattle.flow.proofs.Joined.{gain-join}
 use Rattle.flow.proofs.Closing.{Steps, front, rest, ring-closed, ring-distinct}
 use Rattle.flow.proofs.Chain.{grows-some}
@@ -118,12 +118,6 @@ module _ (f : Flow) (E : ℕ → ℤ) (t : ℕ → ℕ) (n : ℕ) (node arc : �
       };
       grows = line-grows;
     }
-
-  -- with more places than there are nodes it has closed one
-  pub line-loop : f .nodes ≤ n → GrowingRing f
-  line-loop h =
-      let t = pigeons (f .nodes) (suc n) node (λ d k. line .small d (omega arith)) (omega arith) in
-      line-ring (t .first) (t .second) (t .second) (t .order) (omega arith) (omega (arith, t .bound)) (t .same) (t .fresh)
 
 -- a walk back over parents that ends at a launch gives no more than as many rounds
 pub line-round : (f : Flow) (E : ℕ → ℤ) (t : ℕ → ℕ) (n : ℕ) (node arc : ℕ → ℕ) → Line f E t n node arc → E (node n) ≡ f .launch (node n) →

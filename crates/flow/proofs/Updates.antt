@@ -26,11 +26,6 @@ module _ (s : Side) (f : Flow) (good : Good f) where
       ≤ℤ-trans (update-below i E F u (updated-rises h) j l)
       (next-mono s f good E F (update-rises i E F u (updated-rises h)) j l)
 
-  pub updated-launch : {E : ℕ → ℤ} → Updated s f E → Bounded late f (f .launch) E
-  updated-launch (launched e) i l = ≤ℤ-eq (sym (e i l))
-  updated-launch (updated {E} {F} i h u) j l =
-      ≤ℤ-trans (updated-launch h j l) (update-rises i E F u (updated-rises h) j l)
-
   pub updated-fits : (D : ℕ → ℤ) → Fits s f D → {E : ℕ → ℤ} → Updated s f E → Bounded late f E D
   updated-fits D fits (launched e) i l = rw (e i l) (fits-launch s f D fits i l)
   updated-fits D fits (updated {E} {F} i h u) j l =

@@ -44,7 +44,7 @@ module _ (bytes : List ℕ) (v : Valid bytes) (image : Image) (same : image ≡ 
   })
 
   -- the tables without launches
-  abbrev pub web : Net
+  abbrev web : Net
   web = webOf (arcsOf sources (leadsOf s lates earlies) (image .cycle)) first latches
 
   pub held-shape : Shaped web (image .synchronizers) (image .arcs)
