@@ -94,7 +94,11 @@ returns-2 c =
     let base = timesOf (x .departs .now) in
     let r = c .before .before .before .before .before .before .before .before .before .before .before .before .before .before .before .loop in
     let order = order-turned (r .forth) (x .l) _ (c .before .before .before .before .before .before .before .before .before .before .before .before .before .before .before .before .arrange .ensures .1) in
-    rw (← r .inv .0) (closed-ringed s n (x .l) (h .0 .0) base (r .departs) (r .parents) _ _ (r .n) _ _ order (r .inv .1) (c .before .before .before .before .before .before .before .before .before .before .before .before .before .before .loop-test .taken) (c .before .before .before .before .before .before .before .before .before .before .pass .ensures) (omega (arith, c .before .before .before .before .before .before .before .before .before .if1 .left)) (c .before .before .before .before .close .ensures) (c .if2 .taken))
+    let more = c .before .before .before .before .before .before .before .before .before .before .before .before .before .before .loop-test .taken in
+    let p = c .before .before .before .before .before .before .before .before .before .before .pass .ensures in
+    let rose = c .before .before .before .before .before .before .before .before .before .if1 .left in
+    let o = c .before .before .before .before .close .ensures in
+    rw (← r .inv .0) (closed-ringed s n (x .l) (h .0 .0) base (r .departs) (r .parents) _ _ (r .n) _ _ order (r .inv .1) more p (omega (arith, rose)) o (c .if2 .taken))
 
 loop-less : tie.Need-loop-less Inv-loop μ-loop
 loop-less c = omega (arith, c .before .before .before .before .before .before .before .before .before .before .before .before .before .before .loop-test .taken)
@@ -108,9 +112,13 @@ loop-again c =
     let base = timesOf (x .departs .now) in
     let r = c .before .before .before .before .before .before .before .before .before .before .before .before .before .before .before .loop in
     let order = order-turned (r .forth) (x .l) _ (c .before .before .before .before .before .before .before .before .before .before .before .before .before .before .before .before .arrange .ensures .1) in
+    let more = c .before .before .before .before .before .before .before .before .before .before .before .before .before .before .loop-test .taken in
     let p = c .before .before .before .before .before .before .before .before .before .before .pass .ensures in
-    let o = closed-open s n (x .l) (h .0 .0) base (r .departs) (r .parents) _ _ (r .n) _ _ order (r .inv .1) (c .before .before .before .before .before .before .before .before .before .before .before .before .before .before .loop-test .taken) p (omega (arith, c .before .before .before .before .before .before .before .before .before .if1 .left)) (c .before .before .before .before .close .ensures) (omega (arith, c .if2 .left)) in
-    (rw (o .0) (r .inv .0), climb-more s n (x .l) (h .0 .0) base (r .departs) (r .parents) (r .n) (r .inv .1) (c .before .before .before .before .before .before .before .before .before .before .before .before .before .before .loop-test .taken) _ order _ _ _ p, λ e. inr (o .1 e))
+    let rose = c .before .before .before .before .before .before .before .before .before .if1 .left in
+    let k = c .before .before .before .before .close .ensures in
+    let none = c .if2 .left in
+    let o = closed-open s n (x .l) (h .0 .0) base (r .departs) (r .parents) _ _ (r .n) _ _ order (r .inv .1) more p (omega (arith, rose)) k (omega (arith, none)) in
+    (rw (o .0) (r .inv .0), climb-more s n (x .l) (h .0 .0) base (r .departs) (r .parents) (r .n) (r .inv .1) more _ order _ _ _ p, λ e. inr (o .1 e))
 
 same-length-3 : tie.Need-same-length-3 Inv-loop μ-loop
 same-length-3 c = search needs
