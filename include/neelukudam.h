@@ -59,9 +59,9 @@ enum neelukudam_result {
 /* Bytes of stack that a call needs at most, rounded up from what tests/link/stack.c measures; the test fails where it measures more. The
  * frames are touched page by page, so a stack that is too small ends at its guard page. */
 #define NEELUKUDAM_STACK_CHECK 8192
-#define NEELUKUDAM_STACK_TIMING 65536
-#define NEELUKUDAM_STACK_PATH 131072
-#define NEELUKUDAM_STACK_REPORT 147456
+#define NEELUKUDAM_STACK_TIMING 49152
+#define NEELUKUDAM_STACK_PATH 114688
+#define NEELUKUDAM_STACK_REPORT 131072
 
 /* Numbers of refusal. They are tested in this order, and the first that applies is given. With 6 to 9 comes the lowest record at fault, counted
  * from 0 in its table; with the others the record is 0. */
