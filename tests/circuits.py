@@ -1,19 +1,19 @@
 #!/usr/bin/env python3
 """The circuits of document 01 as image files, and the report of each.
 
-`python3 tests/circuits.py` writes circuits/p1.image to circuits/p10.image, each with its report beside it, and the program's stored run,
-crates/neelukudam/stdin and stdout, which is P1.
+`python3 tests/circuits.py` writes circuits/p1.image to circuits/p10.image and circuits/too_long.image, each with its report beside it, and
+the program's stored run, crates/neelukudam/stdin and stdout, which is P1. tests/link/run runs the program on all of them.
 `python3 tests/circuits.py --check` only compares, and ends with status 1 where something differs.
 `python3 tests/circuits.py FILE...` prints the report of each image file.
 
-The reports come from the engine below. It was written from document 01: departures are raised in place until nothing changes. The two texts
-that document 01 prints are held against it by hand.
+The reports come from the engine below. It was written from document 01: departures are raised in place until nothing changes. The texts
+that document 01 gives are held against it by hand.
 """
 import pathlib
 import struct
 import sys
 
-from cases import CASES, GOOD, judge, known_circuits
+from cases import CASES, GOOD, judge, known_circuits, largest
 from stored import ROOT, store
 
 MARK = 2**63 - 1
@@ -142,10 +142,20 @@ def circuits():
     return {name: image for name, _, image in CASES if name != "base"}
 
 
+def too_long():
+    """The largest image and one byte too many. Without that byte it is good: whoever does not read it prints something else."""
+    CASES.clear()
+    largest()
+    image = next(image for name, _, image in CASES if name == "largest-one-byte-long")
+    assert len(image) == 45_217 and judge(image[:-1]) == GOOD
+    return image
+
+
 PRINTED = {
     "p1": "timed 2 0 0\n0 60 60 25 60 20 30\n1 60 80 35 80 30 10\n",
     "p2": "loop 2 1\n1\n0\n",
     "p10": "timed 0 0 0\n",
+    "too_long": "refused 5 0\n",
 }
 
 
@@ -154,8 +164,9 @@ def main():
         for name in sys.argv[1:]:
             sys.stdout.write(report(pathlib.Path(name).read_bytes()))
         return
-    wanted = {}
-    for name, image in circuits().items():
+    wanted, images = {}, circuits()
+    images["too_long"] = too_long()
+    for name, image in images.items():
         text = report(image)
         assert PRINTED.get(name, text) == text, (name, text)
         wanted[ROOT / "circuits" / (name + ".image")] = image
@@ -163,7 +174,7 @@ def main():
     program = ROOT / "crates" / "neelukudam"
     wanted[program / "stdin"] = wanted[ROOT / "circuits" / "p1.image"]
     wanted[program / "stdout"] = wanted[ROOT / "circuits" / "p1.report"]
-    store(wanted, "%d circuits" % len(circuits()))
+    store(wanted, "%d circuits" % len(images))
 
 
 if __name__ == "__main__":

@@ -1,8 +1,9 @@
 -- The laws of circuits, in the order in which they build on each other.
+pub mod Says
 pub mod Sound
 pub mod Ranges
-pub mod Says
 pub mod Solved
 pub mod Unique
 pub mod Sizes
 pub mod Narrowing
+pub mod Changes

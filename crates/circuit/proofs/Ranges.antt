@@ -3,6 +3,7 @@
 use mathlib.Core.Path.{_≡_, refl}
 use mathlib.Core.Bool.{Bool, true, false, cond}
 use Prim.Native.Nat.{ℕ, _+_, _≤_, _<_}
+use native.Mathlib.Nat.{le-refl}
 use native.Mathlib.Omega.{arith}
 use lib.Dec.{ltb}
 use lib.IntN.{ℤ, pos, negsuc, _-ℤ_}
@@ -14,11 +15,16 @@ use Rattle.flow.specs.Bounds.{Within}
 use Rattle.circuit.specs.Circuit.{Circuit}
 use Rattle.circuit.specs.Clock.{shift, across, isLatch, opening, launch, delay, weight, flow}
 use Rattle.circuit.proofs.Sound.{Sound}
+use Rattle.circuit.proofs.Says.{delay-between}
 
 -- 0 ≤ z ≤ n
 pub record Between (z : ℤ) (n : ℕ) : Type 0 where
   pub low : pos 0 ≤ℤ z
   pub high : z ≤ℤ pos n
+
+between-cond : (t : Bool) {x y : ℤ} {n : ℕ} → Between x n → Between y n → Between (cond t x y) n
+between-cond true h k = h
+between-cond false h k = k
 
 pub shift-self : (c : Circuit) (p : ℕ) → shift c p p ≡ pos (c .cycle)
 unfolding shift
@@ -52,15 +58,12 @@ module _ (c : Circuit) (v : Sound c) where
 
   pub launch-range : (i : ℕ) → i < c .synchronizers → Between (launch c i) (c .cycle)
   unfolding launch
-  launch-range i l = go (isLatch c i)
-    where
-      go : (t : Bool) → Between (cond t (opening c i) (pos (c .cycle))) (c .cycle)
-      go true = opening-range i l
-      go false = record { low = omega ints; high = ≤ℤ-refl _ }
+  launch-range i l = between-cond (isLatch c i) (opening-range i l) (record { low = omega ints; high = ≤ℤ-refl _ })
 
   pub delay-le : (a : ℕ) → a < c .arcs → delay early c a ≤ delay late c a
-  unfolding delay
-  delay-le a l = omega (arith, v .least (c .from a) (v .from a l), v .shortest a l)
+  delay-le a l =
+      let h = delay-between c a _ _ (le-refl _) (v .least (c .from a) (v .from a l)) (le-refl _) (v .shortest a l) in
+      omega (arith, h .0, h .1)
 
   late-most : (a : ℕ) → a < c .arcs → delay late c a ≤ 2000000000
   unfolding delay

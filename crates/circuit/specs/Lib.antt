@@ -2,3 +2,4 @@ pub mod Circuit
 pub mod Clock
 pub mod Times
 pub mod Narrows
+pub mod Changes

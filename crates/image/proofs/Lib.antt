@@ -1,4 +1,5 @@
 -- The laws about images that the crates above cite.
+pub mod Enough
 pub mod Found
 pub mod Handing
 pub mod Held

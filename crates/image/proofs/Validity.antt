@@ -13,6 +13,7 @@ use Rattle.image.specs.Kind.{headerOf, mostPhases, mostSynchronizers, mo
 use Rattle.image.specs.Rules.{badCycle, badCounts, badLayout, badPhase, badSynchronizer, badArc, badOrder, lowestOf, precedes}
 use Rattle.image.specs.Checks.{refuse, recordsOf, checkOf}
 use Rattle.image.specs.Valid.{imageIn, phaseIn, synchronizerIn, arcIn, Before, Valid}
+use Rattle.image.specs.declared.kind.Header.{Header}
 use Rattle.image.specs.declared.kind.Image.{Image}
 use Rattle.image.specs.declared.records.Arc.{Arc}
 use Rattle.image.specs.declared.rules.Rule.the-variants as rule
@@ -33,6 +34,17 @@ back i = omega arith
 
 before-iff : (a b : Arc) → (not (precedes a b) ≡ false) ↔ Before a b
 before-iff a b = not-iff _ (either-iff _ _ (below-iff _ _) (both-iff _ _ (same-iff _ _) (below-iff _ _)))
+
+pub counts-iff : (h : Header) → (badCounts h ≡ false) ↔
+    ((((1 ≤ h .phases) × (h .phases ≤ mostPhases)) × (h .synchronizers ≤ mostSynchronizers)) × (h .arcs ≤ mostArcs))
+counts-iff h = or-iff _ _ (or-iff _ _ (or-iff _ _ (ltb-iff _ _) (ltb-iff _ _)) (ltb-iff _ _)) (ltb-iff _ _)
+
+pub layout-iff : (h : Header) (n : ℕ) → (badLayout h n ≡ false) ↔
+    ((((h .«phase_table» ≡ 32)
+    × (h .«synchronizer_table» ≡ 32 + 8 * h .phases))
+    × (h .«arc_table» ≡ 32 + 8 * h .phases + 24 * h .synchronizers))
+    × (n ≡ 32 + 8 * h .phases + 24 * h .synchronizers + 16 * h .arcs))
+layout-iff h n = or-iff _ _ (or-iff _ _ (or-iff _ _ (differs-iff _ _) (differs-iff _ _)) (differs-iff _ _)) (differs-iff _ _)
 
 -- every test of the table fails
 pub record Passed (bytes : List ℕ) : Type 0 where
@@ -103,19 +115,6 @@ module _ (bytes : List ℕ) where
   cycle-iff : (badCycle (headerOf bytes) ≡ false) ↔ ((1 ≤ imageIn bytes .cycle) × (imageIn bytes .cycle ≤ longestCycle))
   cycle-iff = or-iff _ _ (ltb-iff _ _) (ltb-iff _ _)
 
-  counts-iff : (badCounts (headerOf bytes) ≡ false) ↔
-      ((((1 ≤ imageIn bytes .phases) × (imageIn bytes .phases ≤ mostPhases))
-      × (imageIn bytes .synchronizers ≤ mostSynchronizers))
-      × (imageIn bytes .arcs ≤ mostArcs))
-  counts-iff = or-iff _ _ (or-iff _ _ (or-iff _ _ (ltb-iff _ _) (ltb-iff _ _)) (ltb-iff _ _)) (ltb-iff _ _)
-
-  layout-iff : (badLayout (headerOf bytes) (length bytes) ≡ false) ↔
-      ((((imageIn bytes .layout .phases ≡ 32)
-      × (imageIn bytes .layout .synchronizers ≡ 32 + 8 * imageIn bytes .phases))
-      × (imageIn bytes .layout .arcs ≡ 32 + 8 * imageIn bytes .phases + 24 * imageIn bytes .synchronizers))
-      × (length bytes ≡ 32 + 8 * imageIn bytes .phases + 24 * imageIn bytes .synchronizers + 16 * imageIn bytes .arcs))
-  layout-iff = or-iff _ _ (or-iff _ _ (or-iff _ _ (differs-iff _ _) (differs-iff _ _)) (differs-iff _ _)) (differs-iff _ _)
-
   module _ (i : ℕ) where
     phase-iff : (badPhase bytes (imageIn bytes) i ≡ false) ↔
         ((((phaseIn bytes i .active ≤ imageIn bytes .cycle)
@@ -170,8 +169,8 @@ module _ (bytes : List ℕ) where
   pub valid : Passed bytes → Valid bytes
   valid p =
       let cycle = cycle-iff .0 (p .cycle) in
-      let counts = counts-iff .0 (p .counts) in
-      let layout = layout-iff .0 (p .layout) in
+      let counts = counts-iff (headerOf bytes) .0 (p .counts) in
+      let layout = layout-iff (headerOf bytes) (length bytes) .0 (p .layout) in
       record {
         long = ltb-iff _ _ .0 (p .long);
         version = differs-iff _ _ .0 (p .version);
@@ -211,8 +210,8 @@ module _ (bytes : List ℕ) where
     long = ltb-iff _ _ .1 (v .long);
     version = differs-iff _ _ .1 (v .version);
     cycle = cycle-iff .1 (v .some-cycle, v .cycle);
-    counts = counts-iff .1 (((v .some-phase, v .phases), v .synchronizers), v .arcs);
-    layout = layout-iff .1 (((v .phase-table, v .synchronizer-table), v .arc-table), v .total);
+    counts = counts-iff (headerOf bytes) .1 (((v .some-phase, v .phases), v .synchronizers), v .arcs);
+    layout = layout-iff (headerOf bytes) (length bytes) .1 (((v .phase-table, v .synchronizer-table), v .arc-table), v .total);
     phase = λ i l. let h = v .phase i l in phase-iff i .1 (((h .active, h .closing), rising i l), λ e. v .last i (omega arith));
     synchronizer = λ i l. let h = v .synchronizer i l in
         synchronizer-iff i .1 (((((h .phase, h .kind), h .setup), h .hold), h .least), h .greatest);

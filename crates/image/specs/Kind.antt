@@ -42,6 +42,10 @@ offsetOf Synchronizers k l m = 32 + 8 * k
 offsetOf Arcs k l m = 32 + 8 * k + 24 * l
 offsetOf End k l m = 32 + 8 * k + 24 * l + 16 * m
 
+-- the bytes of the largest image
+abbrev pub mostBytes : ℕ
+mostBytes = offsetOf End mostPhases mostSynchronizers mostArcs
+
 -- what an image says of itself; its tables start where the header says, which rule 5 holds to the offsets above
 abbrev pub imageOf : Header → Image
 imageOf header = record {

@@ -71,7 +71,11 @@ impl Image {
 
     pub const ARC_BYTES: u32 = 16;
 
-    pub const MOST_BYTES: u32 = 45_216;
+    // The bytes of the largest image. Of an input, one more is enough to read: a longer one is then seen to be too long.
+    pub const MOST_BYTES: u32 = Image::HEADER_BYTES
+        + Image::PHASE_BYTES * Image::MOST_PHASES
+        + Image::SYNCHRONIZER_BYTES * Image::MOST_SYNCHRONIZERS
+        + Image::ARC_BYTES * Image::MOST_ARCS;
 
     // The byte at which a part starts, where the tables follow each other without gaps. The counts may be any
     // numbers: rule 4 has not been asked yet.

@@ -6,4 +6,5 @@ pub mod Outcomes
 pub mod Computes
 pub mod Known
 pub mod Mistakes
+pub mod Narrower
 pub mod Answered

@@ -1,0 +1,4 @@
+pub mod Buffers
+pub mod Rings
+pub mod Rules
+pub mod Demands
