@@ -9,3 +9,4 @@ pub mod Loops
 pub mod Explains
 pub mod Refusals
 pub mod Demands
+pub mod ForC
