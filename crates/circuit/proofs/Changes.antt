@@ -13,7 +13,7 @@ use borrow.Author.Tests.{ltb-true, ltb-false, le-ltb, eq-eqb, eqb-true, eqb-fals
 use Rattle.circuit.specs.Circuit.{Circuit}
 use Rattle.circuit.specs.Times.{Times, Calm}
 use Rattle.circuit.specs.Narrows.{Narrows, Narrowed}
-use Rattle.circuit.specs.Changes.{put, past, revised, Change, setup, hold, least, greatest, shortest, longest, drop, Allowed, Inside, changed, changedBy, AllAllowed}
+use Rattle.circuit.specs.Changes.{put, past, revised, Change, setup, hold, least, greatest, shortest, longest, drop, Allowed, Applies, changed, changedBy, AllAllowed}
 use Rattle.circuit.proofs.Sound.{Sound}
 use Rattle.circuit.proofs.Narrowing.{narrows-calm, narrowed}
 
@@ -225,7 +225,7 @@ module _ (c : Circuit) where
         go false false p q = omega (arith, ltb-false a b p, ltb-false b a q)
 
     -- nor is there another change that is in the relation and leaves the circuit sound
-    change-only : (x : Change) → Inside c x → Narrows c (changed c x) → Sound (changed c x) → Allowed c x
+    change-only : (x : Change) → Applies c x → Narrows c (changed c x) → Sound (changed c x) → Allowed c x
     change-only (setup i x) l n w = rw (put-here (c .setup) i x) at (n .setup i l)
     change-only (hold i x) l n w = rw (put-here (c .hold) i x) at (n .hold i l)
     change-only (least i x) l n w = (rw (put-here (c .least) i x) at (n .least i l), rw (put-here (c .least) i x) at (w .least i l))
@@ -237,7 +237,7 @@ module _ (c : Circuit) where
     change-only (drop a) l n w = let k = n .kept a l in (l, past a (k .0), past-inside a (k .0) (c .arcs) (k .1), past-other a (k .0), k .2)
 
     -- so the changes that narrow it to a sound circuit are those that are allowed
-    pub change-exactly : (x : Change) → Inside c x → Allowed c x ↔ (Narrows c (changed c x) × Sound (changed c x))
+    pub change-exactly : (x : Change) → Applies c x → Allowed c x ↔ (Narrows c (changed c x) × Sound (changed c x))
     change-exactly x l = (λ h. (change-narrows x h, change-sound x h), λ h. change-only x l (h .0) (h .1))
 
 -- any number of changes, one after the other

@@ -57,14 +57,14 @@ Allowed c (longest a x) = (c .shortest a ≤ x) × (x ≤ c .longest a)
 Allowed c (drop a) = (a < c .arcs) × (other : ℕ) × (other < c .arcs) × (other ≢ a) × (c .to other ≡ c .to a)
 
 -- what the change is made to is in the circuit
-abbrev pub Inside : Circuit → Change → Type 0
-Inside c (setup i x) = i < c .synchronizers
-Inside c (hold i x) = i < c .synchronizers
-Inside c (least i x) = i < c .synchronizers
-Inside c (greatest i x) = i < c .synchronizers
-Inside c (shortest a x) = a < c .arcs
-Inside c (longest a x) = a < c .arcs
-Inside c (drop a) = a < c .arcs
+abbrev pub Applies : Circuit → Change → Type 0
+Applies c (setup i x) = i < c .synchronizers
+Applies c (hold i x) = i < c .synchronizers
+Applies c (least i x) = i < c .synchronizers
+Applies c (greatest i x) = i < c .synchronizers
+Applies c (shortest a x) = a < c .arcs
+Applies c (longest a x) = a < c .arcs
+Applies c (drop a) = a < c .arcs
 
 abbrev pub changed : Circuit → Change → Circuit
 changed c (setup i x) = revised c (c .arcs) (λ b. b) (put (c .setup) i x) (c .hold) (c .least) (c .greatest) (c .shortest) (c .longest)

@@ -15,7 +15,7 @@ use Rattle.timing.specs.Promise.{Served, Timing}
 use Rattle.timing.specs.declared.call.Answer.{Answer}
 use Rattle.timing.specs.declared.call.Answer.the-variants.{Growing}
 use Rattle.demands.specs.Buffers.{IsLoop}
-use Rattle.demands.specs.Rings.{Leads, Ring}
+use Rattle.demands.specs.Rings.{Leads, RealRing}
 use Rattle.demands.proofs.Reading.{front-of, rest-of}
 use Rattle.demands.proofs.Outcome.{outcome, timed-defined, loop-shown, served-sound}
 
@@ -23,7 +23,7 @@ walk-leads : (c : Circuit) (p : List ℕ) (i j : ℕ) → Walk (flow late c) i p
 walk-leads c [] i j w = w
 walk-leads c (a ∷ p) i j w = (w .0 .here, w .0 .from, walk-leads c p (c .to a) j (w .1))
 
-shown-ring : (c : Circuit) {n : ℕ} {g : ℤ} {arcs A : List ℕ} → Shown (flow late c) n g arcs A → Ring c n g arcs A
+shown-ring : (c : Circuit) {n : ℕ} {g : ℤ} {arcs A : List ℕ} → Shown (flow late c) n g arcs A → RealRing c n g arcs A
 shown-ring c {n} {g} {arcs} {A} s =
     let r = s .grows .ring in
     let e = front-of (r .path) arcs A n (s .counted) (s .written) in
@@ -53,5 +53,5 @@ module _ (bytes : List ℕ) (numbers : List ℤ) (arcs : List ℕ) where
       )
 
   pub loop-ring : {n : ℕ} {g : ℤ} {R : List ℤ} {A : List ℕ} → Timing bytes numbers arcs (Growing n g) R A →
-      Ring (circuitOf bytes) n g arcs A × (R ≡ numbers)
+      RealRing (circuitOf bytes) n g arcs A × (R ≡ numbers)
   loop-ring x = let h = loop-shown bytes numbers arcs x in (shown-ring (circuitOf bytes) (h .0), h .1)

@@ -21,7 +21,7 @@ use Rattle.circuit.proofs.Narrowing.{narrows-calm, narrowed}
 use Rattle.timing.specs.Promise.{Served, Timing}
 use Rattle.timing.specs.declared.call.Answer.{Answer}
 use Rattle.timing.specs.declared.call.Answer.the-variants.{Timed}
-use Rattle.demands.specs.Buffers.{Defined, Marked, Inside, Narrower, Calmer}
+use Rattle.demands.specs.Buffers.{Defined, Marked, Contained, Narrower, Calmer}
 use Rattle.demands.proofs.Outcome.{outcome, timed-served, timed-defined, loop-shown, served-sound}
 
 -- fewer pass a test where whatever fails the other fails it
@@ -50,7 +50,7 @@ slack-stays f g (at t) (at u) h k = h k
 
 arrivals-stay : {x y x′ y′ : When} → Nested early x′ x → Nested late x′ y′ → Nested late y′ y →
     Marked (orMark (λ t. t) x) (orMark (λ t. t) y) (orMark (λ t. t) x′) (orMark (λ t. t) y′)
-    ⊎ Inside (orMark (λ t. t) x) (orMark (λ t. t) y) (orMark (λ t. t) x′) (orMark (λ t. t) y′)
+    ⊎ Contained (orMark (λ t. t) x) (orMark (λ t. t) y) (orMark (λ t. t) x′) (orMark (λ t. t) y′)
 arrivals-stay neither neither neither = inl (refl, refl, refl, refl)
 arrivals-stay (nested a) (nested b) (nested c) = inr (record { starts = a; whole = b; ends = c })
 

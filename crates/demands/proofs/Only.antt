@@ -14,7 +14,7 @@ use Rattle.timing.specs.declared.call.Answer.{Answer}
 use Rattle.timing.specs.declared.call.Answer.the-variants.{Growing}
 use Rattle.timing.proofs.Only.{timing-only}
 use Rattle.report.specs.Promise.{zeros, noArcs, reportOf, Report}
-use Rattle.demands.specs.Rings.{Turned, OneRing}
+use Rattle.demands.specs.Rings.{Rotated, OneRing}
 use Rattle.demands.proofs.Reading.{front-of}
 use Rattle.demands.proofs.Outcome.{loop-shown}
 use Rattle.demands.proofs.Turning.{one-reading}
@@ -26,7 +26,7 @@ module _ (f : Flow) {m n : ℕ} {g h : ℤ} {before A B : List ℕ} (s : Shown f
   abbrev other : List ℕ
   other = t .grows .ring .path
 
-  shown-path : Turned (take m A) (take n B) → one ≡ other
+  shown-path : Rotated (take m A) (take n B) → one ≡ other
   shown-path r =
       let x : one ≡ r .front ++ r .back = sym (front-of one before A m (s .counted) (s .written)) ∙ r .one in
       let y : other ≡ r .back ++ r .front = sym (front-of other before B n (t .counted) (t .written)) ∙ r .other in
@@ -41,7 +41,7 @@ module _ (f : Flow) {m n : ℕ} {g h : ℤ} {before A B : List ℕ} (s : Shown f
     s .written ∙ rw e (sym (t .written)),
   )
 
-  pub one-shown : Turned (take m A) (take n B) → (Growing m g ≡ Growing n h) × (A ≡ B)
+  pub one-shown : Rotated (take m A) (take n B) → (Growing m g ≡ Growing n h) × (A ≡ B)
   one-shown r = same-shown (shown-path r)
 
 module _ (bytes : List ℕ) (numbers : List ℤ) (arcs : List ℕ) where

@@ -59,7 +59,7 @@ pub record Defined (c : Circuit) (setups holds : ℕ) (numbers R : List ℤ) : T
   pub rest : drop (6 * c .synchronizers) R ≡ drop (6 * c .synchronizers) numbers
 
 -- the window from a′ to b′ lies inside the one from a to b
-pub record Inside (a b a′ b′ : ℤ) : Type 0 where
+pub record Contained (a b a′ b′ : ℤ) : Type 0 where
   pub starts : a ≤ℤ a′
   pub whole : a′ ≤ℤ b′
   pub ends : b′ ≤ℤ b
@@ -70,9 +70,9 @@ Marked a b a′ b′ = (a ≡ mark) × (b ≡ mark) × (a′ ≡ mark) × (b′ 
 
 -- the results of synchronizer i before, in R, and after, in S. A slack that carries the mark is above zero too
 pub record Narrower (R S : List ℤ) (i : ℕ) : Type 0 where
-  pub departures : Inside (earlyDeparture R i) (lateDeparture R i) (earlyDeparture S i) (lateDeparture S i)
+  pub departures : Contained (earlyDeparture R i) (lateDeparture R i) (earlyDeparture S i) (lateDeparture S i)
   pub arrivals : Marked (earlyArrival R i) (lateArrival R i) (earlyArrival S i) (lateArrival S i)
-      ⊎ Inside (earlyArrival R i) (lateArrival R i) (earlyArrival S i) (lateArrival S i)
+      ⊎ Contained (earlyArrival R i) (lateArrival R i) (earlyArrival S i) (lateArrival S i)
   pub hold : pos 0 ≤ℤ holdSlack R i → pos 0 ≤ℤ holdSlack S i
   pub setup : pos 0 ≤ℤ setupSlack R i → pos 0 ≤ℤ setupSlack S i
 

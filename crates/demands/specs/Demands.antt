@@ -18,7 +18,7 @@ use Rattle.timing.specs.declared.ask.Way.{Way}
 use Rattle.timing.specs.declared.ask.Way.the-variants as way
 use Rattle.report.specs.Promise.{Report}
 use Rattle.demands.specs.Buffers.{IsTimed, IsLoop, Defined, Calmer}
-use Rattle.demands.specs.Rings.{Ring, Explained, OneRing}
+use Rattle.demands.specs.Rings.{RealRing, Explained, OneRing}
 use Rattle.demands.specs.Rules.{TimingRule, PathRule}
 
 -- No call relies on its caller having checked anything: the image, the buffers (numbers for results, arcs, text) and the synchronizer i are any
@@ -55,7 +55,7 @@ pub record Demand2 (image : List ℕ) (numbers : List ℤ) (arcs : List ℕ) : T
       IsLoop X ↔ NoneFit (circuitOf image)
   -- and the loop shown is a real ring of latches whose gain is above zero
   pub ring : {n : ℕ} {g : ℤ} {R : List ℤ} {A : List ℕ} → Timing image numbers arcs (Growing n g) R A →
-      Ring (circuitOf image) n g arcs A × (R ≡ numbers)
+      RealRing (circuitOf image) n g arcs A × (R ≡ numbers)
 
 -- Of two valid images with the same clock, phases and kinds, the first without a growing loop, the second only narrowing delay windows, lowering
 -- setup or hold times, or dropping arcs while each synchronizer that had arcs in keeps one

@@ -29,7 +29,7 @@ adds c p = gain (flow late c) p
 
 -- the first n arcs of A are a ring of distinct latches that adds g, above zero; the first of them leaves the lowest-numbered. What arcs
 -- held behind them stays
-pub record Ring (c : Circuit) (n : ℕ) (g : ℤ) (arcs A : List ℕ) : Type 0 where
+pub record RealRing (c : Circuit) (n : ℕ) (g : ℤ) (arcs A : List ℕ) : Type 0 where
   pub start : ℕ
   pub some : 0 < n
   pub counted : length (take n A) ≡ n
@@ -50,7 +50,7 @@ pub record Explained (c : Circuit) (i s n : ℕ) (arcs A : List ℕ) (R : List �
   pub rest : drop n A ≡ drop n arcs
 
 -- the same ring, read from another place on
-pub record Turned (p q : List ℕ) : Type 0 where
+pub record Rotated (p q : List ℕ) : Type 0 where
   pub front : List ℕ
   pub back : List ℕ
   pub one : p ≡ front ++ back
@@ -58,4 +58,4 @@ pub record Turned (p q : List ℕ) : Type 0 where
 
 -- if both answers show a loop, it is the same ring
 abbrev pub OneRing : Answer → List ℕ → Answer → List ℕ → Type 0
-OneRing X A Y B = (m n : ℕ) (g h : ℤ) → X ≡ Growing m g → Y ≡ Growing n h → Turned (take m A) (take n B)
+OneRing X A Y B = (m n : ℕ) (g h : ℤ) → X ≡ Growing m g → Y ≡ Growing n h → Rotated (take m A) (take n B)

@@ -15,7 +15,7 @@ use Rattle.tables.specs.Net.{Net, timesOf, launching, Ranged}
 use Rattle.tables.specs.Models.{Models}
 use Rattle.tables.specs.Raise.{Risen, at-launch, Passed, none, pass, Room, Sweepable}
 use Rattle.tables.specs.Listing.{Order}
-use Rattle.tables.specs.Passing.{Onward, Passing, Climbing, Calm, Ended, settled, ringed, beyond}
+use Rattle.tables.specs.Passing.{Onward, Passing, Climbing, Unringed, Ended, settled, ringed, beyond}
 use Rattle.tables.proofs.Raising.{risen-launch, risen-updated, risen-least, passed-from, passed-round, room-ranged, room-less}
 use Rattle.tables.proofs.Models.{lowered}
 use Rattle.tables.proofs.Stamping.{course-none}
@@ -72,7 +72,7 @@ ended-from on (beyond never) = beyond (λ launch f good models same h. never lau
 -- what the end means, in a flow that the tables hold
 module _ (s : Side) (n : Net) (l : ℕ) (t : Sweepable n l) (launch : ℕ → ℕ) (f : Flow) (good : Good f) (models : Models (launching n launch) f) (same : f .nodes ≡ l) where
   -- no ring is counted: the departures are the least, and the buffer stays
-  pub ended-least : {departs : List ℕ} {count : ℕ} {gain : ℤ} {before after : List ℕ} → Ended s n l launch departs count gain before after → count ≡ 0 → Calm s f → Least s f (lowered (timesOf departs)) × Ranged l (timesOf departs) × (after ≡ before)
+  pub ended-least : {departs : List ℕ} {count : ℕ} {gain : ℤ} {before after : List ℕ} → Ended s n l launch departs count gain before after → count ≡ 0 → Unringed s f → Least s f (lowered (timesOf departs)) × Ranged l (timesOf departs) × (after ≡ before)
   ended-least (settled on ranged still) e calm =
       (risen-least s n l (t .arcs) (t .shaped) launch f good models same (on launch (at-launch {D = launch} (λ i h. refl))) ranged still, ranged, refl)
   ended-least (ringed some shown) e calm = let z : ⊥ = omega arith in absurd z

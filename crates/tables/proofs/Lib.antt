@@ -7,8 +7,8 @@ pub mod Trails
 pub mod Orders
 pub mod Raising
 pub mod Stamping
-pub mod Deciding
+pub mod Trying
 pub mod Passes
 pub mod Rooting
 pub mod Climbing
-pub mod Sweeps
+pub mod Ranking

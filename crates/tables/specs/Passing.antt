@@ -76,13 +76,13 @@ abbrev pub OfFlows : Net → ℕ → (Flow → (ℕ → ℕ) → Type 0) → Typ
 OfFlows n l P = (launch : ℕ → ℕ) (f : Flow) → Good f → Models (launching n launch) f → f .nodes ≡ l → P f launch
 
 -- what the early side is told of a flow, and the late side finds out by itself
-abbrev pub Calm : Side → Flow → Type 0
-Calm late f = Unit {0}
-Calm early f = GrowingRing f → ⊥
+abbrev pub Unringed : Side → Flow → Type 0
+Unringed late f = Unit {0}
+Unringed early f = GrowingRing f → ⊥
 
 -- D did not rise from the launches of a flow that the tables hold, unless a ring grows that the late side would have found
 abbrev pub Never : Side → Net → ℕ → (ℕ → ℕ) → Type 0
-Never s n l D = OfFlows n l (λ f launch. Risen s n l launch D → Calm s f → ⊥)
+Never s n l D = OfFlows n l (λ f launch. Risen s n l launch D → Unringed s f → ⊥)
 
 -- how passes from D end
 pub data Ended (s : Side) (n : Net) (l : ℕ) (D : ℕ → ℕ) (departs : List ℕ) : ℕ → ℤ → List ℕ → List ℕ → Type 0 where

@@ -17,7 +17,7 @@ use Rattle.circuit.specs.Clock.{flow}
 use Rattle.circuit.proofs.Sound.{sound, good}
 use Rattle.tables.specs.Net.{timesOf, arcsOf}
 use Rattle.tables.specs.Ranks.{RanksUpTo}
-use Rattle.tables.proofs.Sweeps.{ranks-found}
+use Rattle.tables.proofs.Ranking.{ranks-found}
 use Rattle.tables.specs.Trail.{Stepping}
 use Rattle.tables.proofs.Models.{lowered}
 use Rattle.tables.proofs.Trails.{trail-length, stepping, trail-path}

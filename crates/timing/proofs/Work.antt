@@ -17,7 +17,7 @@ use Rattle.circuit.proofs.Sound.{sound, good}
 use Rattle.circuit.proofs.Ranges.{early-within}
 use Rattle.tables.specs.Net.{Net, timesOf, arcsOf, netOf, webOf, Shaped}
 use Rattle.tables.specs.Raise.{Room, Sweepable}
-use Rattle.tables.specs.Passing.{Calm, Ended}
+use Rattle.tables.specs.Passing.{Unringed, Ended}
 use Rattle.tables.specs.Models.{Models}
 use Rattle.tables.proofs.Climbing.{ended-least, ended-shown}
 use Rattle.tables.proofs.Models.{lowered}
@@ -64,7 +64,7 @@ module _ (bytes : List ℕ) (v : Valid bytes) (image : Image) (same : image ≡ 
   module _ (s : Side) {D : List ℕ} {count : ℕ} {gain : ℤ} {before after : List ℕ}
       (c : Ended s (webOf (arcsOf sources (leadsOf s lates earlies) (image .cycle)) first latches) (image .synchronizers) (timesOf launches) D count gain before after) where
     -- no ring is counted
-    pub risen-known : count ≡ 0 → Calm s (flow s (circuitOf bytes)) → Known s (circuitOf bytes) D × (after ≡ before)
+    pub risen-known : count ≡ 0 → Unringed s (flow s (circuitOf bytes)) → Known s (circuitOf bytes) D × (after ≡ before)
     risen-known e calm =
         let h = ended-least s _ (image .synchronizers) (sweepable s) (timesOf launches) (flow s (circuitOf bytes)) (good s (circuitOf bytes) (sound bytes v)) (models s) (nodes s) c e calm in
         (record { least = h .0; ranged = rw (← counts bytes image same .synchronizers) (h .1) }, h .2)
@@ -74,7 +74,7 @@ module _ (bytes : List ℕ) (v : Valid bytes) (image : Image) (same : image ≡ 
     risen-ring = ended-shown s _ (image .synchronizers) (sweepable s) (timesOf launches) (flow s (circuitOf bytes)) (good s (circuitOf bytes) (sound bytes v)) (models s) (nodes s) c
 
   -- where late departures fit no ring grows, late or early
-  pub calm : (E : List ℕ) → Known late (circuitOf bytes) E → Calm early (flow early (circuitOf bytes))
+  pub calm : (E : List ℕ) → Known late (circuitOf bytes) E → Unringed early (flow early (circuitOf bytes))
   calm E k = within-calm (flow early (circuitOf bytes)) (flow late (circuitOf bytes)) (good early (circuitOf bytes) (sound bytes v)) (good late (circuitOf bytes) (sound bytes v))
       (early-within (circuitOf bytes) (sound bytes v)) (lowered (timesOf E)) (k .least .fits)
 

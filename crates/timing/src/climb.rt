@@ -8,13 +8,13 @@ ghost use Rattle.tables.specs.Raise.{Given, Brings, Tried, Room, Sweepable};
 ghost use Rattle.tables.specs.Listing.{Order};
 ghost use Rattle.tables.specs.Passing.{toOrFro, Passing, Ended};
 ghost use Rattle.timing.specs.Ready.{Reachable, SweepsAt};
-use crate::arrive::arrival;
 use crate::arrive::bring;
 use crate::arrive::index;
 use crate::arrive::narrow;
 use crate::order::arrange;
 use crate::ring::Ring;
 use crate::ring::close;
+use crate::sweeps::rises_to;
 use crate::sweeps::settle;
 use crate::sweeps::turn;
 
@@ -42,7 +42,7 @@ fn bringer(
     a
 }
 
-// Raises synchronizer i to its arrival, where that is later than its departure, and notes the arc.
+// Raises synchronizer i, and notes the arc that brought the time, if that made it depart later.
 fn lift(
     late: bool,
     source: &[u16; 2048],
@@ -57,18 +57,12 @@ fn lift(
     requires { ⌜ SweepsAt (webOf (arcsOf (now source) (now lead) cycle) (now first) (now latch)) (timesOf (now departs)) i ⌝ }
     ensures { λ r. ⌜ Tried (sideOf late) (webOf (arcsOf (now (source .entry)) (now (lead .entry)) cycle) (now (first .entry)) (now (latch .entry))) i (now (departs .entry)) (now (parents .entry)) r (now (departs .exit)) (now (parents .exit)) ⌝ }
 {
-    if latch[i] != 1 {
+    let time = rises_to(late, source, lead, cycle, first, latch, i, departs);
+    if time <= departs[i] {
         return false;
     }
     let from = index(first[i]);
     let to = index(first[i + 1]);
-    if to <= from {
-        return false;
-    }
-    let time = arrival(late, source, lead, cycle, departs, from, to);
-    if time <= departs[i] {
-        return false;
-    }
     let arc = bringer(source, lead, cycle, departs, from, to, time);
     departs[i] = time;
     parents[i] = narrow(arc);

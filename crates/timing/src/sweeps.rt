@@ -4,7 +4,7 @@ ghost use mathlib.Core.Path.{_≡_};
 ghost use Prim.Native.Nat.{_<_, _≤_};
 ghost use lib.ListN.{length};
 ghost use Rattle.tables.specs.Net.{sideOf, timesOf, arcsOf, webOf};
-ghost use Rattle.tables.specs.Raise.{Lifted, Room, Sweepable};
+ghost use Rattle.tables.specs.Raise.{raised, Lifted, Room, Sweepable};
 ghost use Rattle.tables.specs.Passing.{toOrFro, Rested, Sweep, Settling};
 ghost use Rattle.timing.specs.Ready.{SweepsAt};
 use crate::arrive::arrival;
@@ -19,7 +19,35 @@ pub(crate) fn turn(forth: bool, l: usize, x: usize) -> usize
     if forth { x } else { l - 1 - x }
 }
 
-// Raises synchronizer i to its arrival, where that is later than its departure. Says whether it was.
+// What synchronizer i is raised to: a latch that an arc enters to the greater of its arrival and its departure, any other to its departure.
+pub(crate) fn rises_to(
+    late: bool,
+    source: &[u16; 2048],
+    lead: &[u32; 2048],
+    cycle: u32,
+    first: &[u16; 513],
+    latch: &[u8; 512],
+    i: usize,
+    departs: &[u64; 512],
+) -> u64
+    requires { ⌜ SweepsAt (webOf (arcsOf (now source) (now lead) cycle) (now first) (now latch)) (timesOf (now departs)) i ⌝ }
+    ensures { λ r. ⌜ r ≡ raised (sideOf late) (webOf (arcsOf (now (source .entry)) (now (lead .entry)) cycle) (now (first .entry)) (now (latch .entry))) (timesOf (now (departs .entry))) i ⌝ }
+{
+    if latch[i] != 1 {
+        return departs[i];
+    }
+    let from = index(first[i]);
+    let to = index(first[i + 1]);
+    if to <= from {
+        return departs[i];
+    }
+    greater(
+        arrival(late, source, lead, cycle, departs, from, to),
+        departs[i],
+    )
+}
+
+// Raises synchronizer i. Says whether that made it depart later.
 fn raise(
     late: bool,
     source: &[u16; 2048],
@@ -33,17 +61,9 @@ fn raise(
     requires { ⌜ SweepsAt (webOf (arcsOf (now source) (now lead) cycle) (now first) (now latch)) (timesOf (now departs)) i ⌝ }
     ensures { λ r. ⌜ Lifted (sideOf late) (webOf (arcsOf (now (source .entry)) (now (lead .entry)) cycle) (now (first .entry)) (now (latch .entry))) i (now (departs .entry)) r (now (departs .exit)) ⌝ }
 {
-    if latch[i] != 1 {
-        return false;
-    }
-    let from = index(first[i]);
-    let to = index(first[i + 1]);
-    if to <= from {
-        return false;
-    }
-    let time = arrival(late, source, lead, cycle, departs, from, to);
+    let time = rises_to(late, source, lead, cycle, first, latch, i, departs);
     let before = departs[i];
-    departs[i] = greater(time, before);
+    departs[i] = time;
     before < time
 }
 

@@ -7,7 +7,7 @@ use Rattle.tables.specs.Net.{sideOf, timesOf, arcsOf, webOf}
 use Rattle.tables.specs.Passing.{toOrFro, Passing}
 use Rattle.tables.proofs.Orders.{order-all, order-turned}
 use Rattle.tables.proofs.Raising.{room-ranged}
-use Rattle.tables.proofs.Deciding.{tried-rises, tried-stays}
+use Rattle.tables.proofs.Trying.{tried-rises, tried-stays}
 use Rattle.tables.proofs.Passes.{sweep-room, passing-none, passing-stays, passing-rises}
 use borrow.Author.Needs.{needs}
 use Rattle.timing.proofs.climb.pass.Statement.{statement}

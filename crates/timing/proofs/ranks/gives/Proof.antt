@@ -6,7 +6,7 @@ use native.Mathlib.Decide.{ℕ-discrete}
 use Rattle.tables.specs.Net.{timesOf, arcsOf}
 use Rattle.tables.specs.Trail.{is, not}
 use Rattle.tables.specs.Ranks.{GivenBy}
-use Rattle.tables.proofs.Sweeps.{asked, not-asked}
+use Rattle.tables.proofs.Ranking.{asked, not-asked}
 use borrow.Author.Needs.{needs}
 use Rattle.timing.proofs.ranks.gives.Statement.{statement}
 use Rattle.timing.proofs.ranks.gives.Tie as tie

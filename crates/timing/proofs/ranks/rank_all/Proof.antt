@@ -7,7 +7,7 @@ use lib.ListN.{length, getD}
 use borrow.Author.Tests.{not-true}
 use Rattle.tables.specs.Net.{timesOf, arcsOf, netOf}
 use Rattle.tables.specs.Ranks.{RankedTo}
-use Rattle.tables.proofs.Sweeps.{ranks-begin, ranks-end, ranks-top}
+use Rattle.tables.proofs.Ranking.{ranks-begin, ranks-end, ranks-top}
 use borrow.Author.Needs.{needs}
 use Rattle.timing.proofs.ranks.rank_all.Statement.{statement}
 use Rattle.timing.proofs.ranks.rank_all.Tie as tie

@@ -4,7 +4,7 @@ use Prim.Native.Nat.{_-_, _≤_}
 use native.Mathlib.Omega.{arith}
 use Rattle.tables.specs.Net.{timesOf, arcsOf, netOf}
 use Rattle.tables.specs.Ranks.{Sweeping}
-use Rattle.tables.proofs.Sweeps.{sweeping-none, sweeping-more}
+use Rattle.tables.proofs.Ranking.{sweeping-none, sweeping-more}
 use Rattle.timing.proofs.ranks.sweep.Statement.{statement}
 use Rattle.timing.proofs.ranks.sweep.Tie as tie
 

@@ -6,12 +6,12 @@ use Prim.Native.Nat.{ℕ, suc, _+_, _-_, _<_, _≤_, max}
 use native.Mathlib.Omega.{arith}
 use lib.Dec.{ltb}
 use lib.ListN.{getD, set}
-use lib.Seq.{set-getD}
 use borrow.Author.Tests.{eq-eqb, ne-eqb, ltb-true, ltb-false}
 use Rattle.flow.specs.Flow.{Side}
 use Rattle.tables.specs.Net.{Net, timesOf, brought, best, degree, arrivalN, Ranged}
 use Rattle.tables.specs.Raise.{raised, Given, Brings, Lifted, Tried, stays, rises, Sweepable}
 use Rattle.tables.proofs.Best.{best-given}
+use Rattle.tables.proofs.Raising.{raised-above}
 
 module _ (s : Side) (n : Net) (D : ℕ → ℕ) (i : ℕ) where
   pub raised-arc : n .latch i ≡ true → n .first i < n .first (i + 1) → raised s n D i ≡ max (arrivalN s n D i) (D i)
@@ -59,19 +59,13 @@ arrival-given s n l t D ranged i here some =
     omega (arith, ranged .high (n .arcs .source b) (t .shaped .sources b m), t .leads b m)) in
     (o .0, o .1, omega (arith, o .2), o .3 ∙ ap (best s (n .arcs) D (n .first i)) (sym e))
 
--- raising in place: nothing to do, or the later of arrival and departure is stored
-module _ (s : Side) (n : Net) (i : ℕ) (before : List ℕ) where
-  pub lifted-none : raised s n (timesOf before) i ≡ getD before i 0 → Lifted s n i before false before
-  lifted-none e = record {
-    stored = sym (ap (set before i) e ∙ set-getD before i 0);
-    rises = λ q. let z : _≡_ {A = ℕ} 0 1 = cc in let k : ⊥ = omega arith in absurd k;
-    stays = λ q. e;
-  }
-
-  pub lifted-max : (t : ℕ) → t ≡ arrivalN s n (timesOf before) i → raised s n (timesOf before) i ≡ max (arrivalN s n (timesOf before) i) (getD before i 0) →
-      Lifted s n i before (ltb (getD before i 0) t) (set before i (max t (getD before i 0)))
-  lifted-max t e r = record {
-    stored = rw (e, r);
-    rises = λ q. let h = ltb-true (getD before i 0) t q in rw r (omega arith);
-    stays = λ q. let h = ltb-false (getD before i 0) t q in rw r (omega arith);
-  }
+-- what a node is raised to is stored
+pub lifted-by : (s : Side) (n : Net) (l : ℕ) → Sweepable n l → (i : ℕ) → i < l → (before : List ℕ) (t : ℕ) → t ≡ raised s n (timesOf before) i →
+    Lifted s n i before (ltb (getD before i 0) t) (set before i t)
+lifted-by s n l w i here before t e =
+    let low = raised-above s n l (w .arcs) (w .shaped) (timesOf before) i here in
+    record {
+      stored = rw e;
+      rises = λ q. rw (← e) (ltb-true (getD before i 0) t q);
+      stays = λ q. let h = ltb-false (getD before i 0) t q in omega (arith, e, low);
+    }
