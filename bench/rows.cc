@@ -44,7 +44,7 @@ int64_t shift(const Circuit &c, uint32_t from, uint32_t to) {
     return p < q ? apart : c.cycle + apart;
 }
 
-// Document 01's ring P1.
+// The ring P1.
 Circuit two() {
     Circuit c;
     c.cycle = 100;

@@ -1,19 +1,19 @@
 #!/usr/bin/env python3
-"""The circuits of document 01 as image files, and the report of each.
+"""The circuits with known numbers as image files, and the report of each.
 
 `python3 tests/circuits.py` writes circuits/p1.image to circuits/p10.image and circuits/too_long.image, each with its report beside it, and
 the program's stored run, crates/neelukudam/stdin and stdout, which is P1. tests/link/run runs the program on all of them.
 `python3 tests/circuits.py --check` only compares, and ends with status 1 where something differs.
 `python3 tests/circuits.py FILE...` prints the report of each image file.
 
-The reports come from the engine below. It was written from document 01: departures are raised in place until nothing changes. The texts
-that document 01 gives are held against it by hand.
+The reports come from the engine below. It was written from the rules (docs/RULES.md): departures are raised in place until nothing
+changes. The texts that were given with the rules are held against it by hand.
 """
 import pathlib
 import struct
 import sys
 
-from cases import CASES, GOOD, judge, known_circuits, largest
+from image_cases import CASES, GOOD, judge, known_circuits, largest
 from stored import ROOT, store
 
 MARK = 2**63 - 1
@@ -28,7 +28,7 @@ def read(image):
 
 
 def shift(tc, phases, i, j):
-    """Equation 1."""
+    """The shift from one phase to another."""
     between = phases[j][0] - phases[i][0]
     return between if i < j else tc + between
 
@@ -136,7 +136,7 @@ def report(image):
 
 
 def circuits():
-    """P1 to P10, as tests/cases.py makes them."""
+    """P1 to P10, as tests/image_cases.py makes them."""
     CASES.clear()
     known_circuits()
     return {name: image for name, _, image in CASES if name != "base"}

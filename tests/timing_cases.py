@@ -1,26 +1,26 @@
 #!/usr/bin/env python3
-"""The frames of the program crates/timing_cases: circuits, and what document 01 says that timing and path give for each.
+"""The frames of the program crates/timing_cases: circuits, and what docs/RULES.md says that timing and path give for each.
 
 `python3 tests/timing_cases.py` writes crates/timing_cases/stdin and crates/timing_cases/stdout.
 `python3 tests/timing_cases.py --check` only compares, and ends with status 1 where they differ.
 
-The rules of the image and the times are those of tests/cases.py and tests/circuits.py, ranks and paths stand below; all were written from
-document 01. Which growing ring is shown is left open there, so every circuit that grows here has exactly one growing ring. How it is found
+The rules of the image and the times are those of tests/image_cases.py and tests/circuits.py, ranks and paths stand below; all were written from
+the rules. Which growing ring is shown is left open there, so every circuit that grows here has exactly one growing ring. How it is found
 does not count: what is found is held to the definition of a ring, and to being the only one that grows. The makers know of most circuits
 whether they grow, and that is tested too.
 """
 import struct
 
-from cases import BASE, FAULTS, GOOD, LIMIT, build, judge
+from image_cases import BASE, FAULTS, GOOD, LIMIT, build, judge
 from circuits import circuits as known_circuits
 from circuits import flow, missed, read, ring, row, shift, six, solve
 from stored import ROOT, store
 
-# ---- What the calls give: document 01, "What the calls give" and "Numbers of refusal". ----
+# ---- What the calls give: docs/RULES.md, "The calls" and "Numbers of refusal". ----
 
 
 class SecondRing(Exception):
-    """Document 01 leaves open which of several growing rings is shown."""
+    """The rules leave open which of several growing rings is shown."""
 
 
 class Engine:
@@ -272,7 +272,7 @@ class Draft:
 
 # ---- The kinds. ----
 
-# What document 01 says of P1 to P10, as far as it makes a whole line.
+# What is known of P1 to P10, as far as it makes a whole line.
 STATED = {
     "p1": ["timed 0 0", "0 60 60 25 60 20 30", "1 60 80 35 80 30 10"],
     "p2": ["loop 2 1: 1 0"],

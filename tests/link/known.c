@@ -1,6 +1,6 @@
-/* Document 01's circuits P1 to P10 through the four calls, and every number of refusal. Run with the folder of the circuits as its word.
+/* The circuits P1 to P10 through the four calls, and every number of refusal. Run with the folder of the circuits as its word.
  *
- * What timing must give is read off the stored reports, which tests/circuits.py works out by itself; what document 01 says of a circuit in
+ * What timing must give is read off the stored reports, which tests/circuits.py works out by itself; what circuits/README.md says of a circuit in
  * words stands here again. Round each buffer lie guard values, and what a call has no business to write is compared afterwards. The file is C99
  * and C++. */
 #include <neelukudam.h>
@@ -309,7 +309,7 @@ int main(int argc, char **argv) {
         check_good();
     }
 
-    /* what document 01 says in words */
+    /* what circuits/README.md says in words */
     open_circuit("p2");
     fill();
     a = neelukudam_timing(image, image_bytes, results, MOST, arcs, MOST);

@@ -1,5 +1,5 @@
 -- The laws of circuits, in the order in which they build on each other.
-pub mod Says
+pub mod RulesInWords
 pub mod Sound
 pub mod Ranges
 pub mod Solved

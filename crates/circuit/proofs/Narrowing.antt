@@ -8,8 +8,10 @@ use lib.IntN.{ℤ, pos, _-ℤ_}
 use lib.Signed.{_≤ℤ_}
 use Rattle.ticks.proofs.Ints.{ints, diff}
 use Rattle.image.specs.Valid.{Valid}
-use Rattle.flow.specs.Flow.{Side, late, early, When, round}
-use Rattle.flow.specs.Bounds.{Inside, Nested, neither, nested, Keeps, Within}
+use Rattle.flow.specs.Flow.{Side, late, early, When}
+use Rattle.flow.specs.inside.Rounds.{round}
+use Rattle.flow.specs.Bounds.{Inside, Nested, neither, nested}
+use Rattle.flow.specs.inside.Within.{Keeps, Within}
 use Rattle.flow.proofs.Sides.{inside-refl}
 use Rattle.flow.proofs.Settles.{within-settles}
 use Rattle.flow.proofs.Rounds.{settled-least}

@@ -11,11 +11,11 @@ use lib.Signed.{_≤ℤ_, ≤ℤ-refl}
 use borrow.Author.Tests.{ltb-true, ltb-false, le-ltb}
 use Rattle.ticks.proofs.Ints.{ints, diff}
 use Rattle.flow.specs.Flow.{Side, late, early}
-use Rattle.flow.specs.Bounds.{Within}
+use Rattle.flow.specs.inside.Within.{Within}
 use Rattle.circuit.specs.Circuit.{Circuit}
 use Rattle.circuit.specs.Clock.{shift, across, isLatch, opening, launch, delay, weight, flow}
 use Rattle.circuit.proofs.Sound.{Sound}
-use Rattle.circuit.proofs.Says.{delay-between}
+use Rattle.circuit.proofs.RulesInWords.{delay-between}
 
 -- 0 ≤ z ≤ n
 pub record Between (z : ℤ) (n : ℕ) : Type 0 where

@@ -8,7 +8,8 @@ use lib.IntN.{ℤ, pos}
 use lib.Signed.{_≤ℤ_}
 use Rattle.ticks.proofs.Ints.{ints, sum}
 use Rattle.ticks.proofs.Order.{≤ℤ-trans}
-use Rattle.flow.specs.Flow.{Side, late, early, round, Fits, Least, Settled}
+use Rattle.flow.specs.Flow.{Side, late, early, Fits, Least}
+use Rattle.flow.specs.inside.Rounds.{round, Settled}
 use Rattle.flow.specs.Bounds.{Nested}
 use Rattle.flow.specs.Walk.{GrowingRing}
 use Rattle.flow.proofs.Rounds.{least-unique, settled-least}

@@ -1,4 +1,4 @@
--- A circuit: the numbers that an image holds, each under the name that document 01 gives it.
+-- A circuit: the numbers that an image holds, each under the name that docs/RULES.md gives it.
 use mathlib.Core.List.{List}
 use Prim.Native.Nat.{ℕ}
 use Rattle.image.specs.Valid.{imageIn, phaseIn, synchronizerIn, arcIn}

@@ -6,7 +6,7 @@ use lib.IntN.{ℤ, pos, _-ℤ_}
 use Rattle.flow.specs.Flow.{Flow, Side, late, early}
 use Rattle.circuit.specs.Circuit.{Circuit}
 
--- equation 1: from phase p to phase q. A phase to itself gives Tc
+-- the shift from phase p to phase q (docs/RULES.md, "The equations"). A phase to itself gives Tc
 unfoldable pub shift : Circuit → ℕ → ℕ → ℤ
 shift c p q = cond (ltb p q) (pos (c .closing q) -ℤ pos (c .closing p)) (pos (c .cycle + c .closing q) -ℤ pos (c .closing p))
 
@@ -22,7 +22,7 @@ isLatch c i = eqb (c .kind i) 0
 unfoldable pub opening : Circuit → ℕ → ℤ
 opening c i = pos (c .cycle) -ℤ pos (c .active (c .phase i))
 
--- a latch departs no sooner than its opening, a flip-flop departs at Tc (GC3, GC4)
+-- a latch departs no sooner than its opening, a flip-flop departs at Tc
 unfoldable pub launch : Circuit → ℕ → ℤ
 launch c i = cond (isLatch c i) (opening c i) (pos (c .cycle))
 

@@ -15,14 +15,14 @@ use Rattle.circuit.specs.Clock.{flow}
 use Rattle.circuit.specs.Times.{orMark}
 use Rattle.circuit.proofs.Sound.{Sound, good}
 use Rattle.circuit.proofs.Unique.{departure-same, arrival-same}
-use Rattle.timing.specs.Promise.{Served, Timing}
-use Rattle.timing.specs.Paths.{Asked, PathCall, found}
-use Rattle.timing.specs.declared.ask.Way.the-variants.{Found}
-use Rattle.timing.specs.declared.call.Answer.{Answer}
+use Rattle.timing.specs.TimingPromise.{Served, Timing}
+use Rattle.timing.specs.PathPromise.{Asked, PathCall, found}
+use Rattle.timing.specs.declared.path_call.Way.the-variants.{Found}
+use Rattle.timing.specs.declared.timing_call.Answer.{Answer}
 use Rattle.demands.specs.Buffers.{IsTimed, lateDeparture, lateArrival, Defined}
 use Rattle.demands.specs.Rings.{Leads, adds, Explained}
 use Rattle.demands.proofs.Reading.{front-of, rest-of}
-use Rattle.demands.proofs.Outcome.{outcome, timed-defined, loop-shown, served-sound}
+use Rattle.demands.proofs.ByAnswer.{outcome, timed-defined, loop-shown, served-sound}
 
 leads-on : (c : Circuit) (p : List ℕ) (a i : ℕ) → Walk (flow late c) i p (c .from a) → a < c .arcs → Leads c i (p ++ (a ∷ [])) (c .to a)
 leads-on c [] a i w l = (l, sym w, refl)

@@ -5,32 +5,32 @@ use Prim.Native.Nat.{ℕ}
 use lib.IntN.{ℤ}
 use Rattle.timing.proofs.OnePath.{path-some}
 use Rattle.interface.specs.Answers.{timingAnswer, pathAnswer}
-use Rattle.interface.specs.Promise.{TimingCall, PathCall, blank, copied, ReportCall}
-use Rattle.interface.specs.declared.timed.TimingAnswer.{TimingAnswer}
-use Rattle.interface.specs.declared.found.PathAnswer.{PathAnswer}
+use Rattle.interface.specs.Promise.{TimingForC, PathForC, blank, copied, ReportForC}
+use Rattle.interface.specs.declared.timing_answer.TimingAnswer.{TimingAnswer}
+use Rattle.interface.specs.declared.path_answer.PathAnswer.{PathAnswer}
 use Rattle.demands.specs.Rings.{OneRing}
-use Rattle.demands.proofs.Only.{timing-one, report-one}
-use Rattle.demands.proofs.Some.{timing-some, report-some}
+use Rattle.demands.proofs.OneOutcome.{timing-one, report-one}
+use Rattle.demands.proofs.SomeOutcome.{timing-some, report-some}
 
 module _ (bytes : List ℕ) (numbers : List ℤ) (arcs : List ℕ) where
-  pub timing-call-some : (x : TimingAnswer) × (R : List ℤ) × (A : List ℕ) × TimingCall bytes numbers arcs x R A
+  pub timing-call-some : (x : TimingAnswer) × (R : List ℤ) × (A : List ℕ) × TimingForC bytes numbers arcs x R A
   timing-call-some = let s = timing-some bytes numbers arcs in (timingAnswer (s .0), s .1, s .2, record { answer = s .0; kept = s .3; told = refl })
 
   -- where both show the same ring, or not both show one, struct and buffers are the same
-  pub timing-call-one : {x y : TimingAnswer} {R S : List ℤ} {A B : List ℕ} (p : TimingCall bytes numbers arcs x R A) (q : TimingCall bytes numbers arcs y S B) →
+  pub timing-call-one : {x y : TimingAnswer} {R S : List ℤ} {A B : List ℕ} (p : TimingForC bytes numbers arcs x R A) (q : TimingForC bytes numbers arcs y S B) →
       OneRing (p .answer) A (q .answer) B → (x ≡ y) × (R ≡ S) × (A ≡ B)
   timing-call-one p q one =
       let e = timing-one bytes numbers arcs (p .kept) (q .kept) one in
       (p .told ∙ ap timingAnswer (e .0) ∙ sym (q .told), e .1, e .2)
 
-pub path-call-some : (bytes : List ℕ) (i : ℕ) (arcs : List ℕ) → (x : PathAnswer) × (A : List ℕ) × PathCall bytes i arcs x A
+pub path-call-some : (bytes : List ℕ) (i : ℕ) (arcs : List ℕ) → (x : PathAnswer) × (A : List ℕ) × PathForC bytes i arcs x A
 path-call-some bytes i arcs = let s = path-some bytes i arcs in (pathAnswer (s .0), s .1, record { answer = s .0; kept = s .2; told = refl })
 
 module _ (bytes before : List ℕ) where
-  pub report-call-some : (size : ℕ) × (after : List ℕ) × ReportCall bytes before size after
+  pub report-call-some : (size : ℕ) × (after : List ℕ) × ReportForC bytes before size after
   report-call-some = let s = report-some bytes blank in (s .0, _, record { whole = s .1; kept = s .2; written = refl })
 
-  pub report-call-one : {m n : ℕ} {x y : List ℕ} (p : ReportCall bytes before m x) (q : ReportCall bytes before n y) →
+  pub report-call-one : {m n : ℕ} {x y : List ℕ} (p : ReportForC bytes before m x) (q : ReportForC bytes before n y) →
       OneRing (p .kept .answer) (p .kept .arcs) (q .kept .answer) (q .kept .arcs) → (m ≡ n) × (x ≡ y)
   report-call-one p q one =
       let e = report-one bytes blank (p .kept) (q .kept) one in

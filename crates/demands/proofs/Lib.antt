@@ -1,10 +1,10 @@
 -- The laws that show the demands.
 pub mod Reading
-pub mod Outcome
+pub mod ByAnswer
 pub mod Narrowing
 pub mod Turning
-pub mod Only
-pub mod Some
+pub mod OneOutcome
+pub mod SomeOutcome
 pub mod Loops
 pub mod Explains
 pub mod Refusals

@@ -11,13 +11,13 @@ use Rattle.circuit.specs.Circuit.{Circuit, circuitOf}
 use Rattle.circuit.specs.Clock.{flow}
 use Rattle.circuit.specs.Times as times
 use Rattle.circuit.proofs.Sound.{good}
-use Rattle.timing.specs.Promise.{Served, Timing}
-use Rattle.timing.specs.declared.call.Answer.{Answer}
-use Rattle.timing.specs.declared.call.Answer.the-variants.{Growing}
+use Rattle.timing.specs.TimingPromise.{Served, Timing}
+use Rattle.timing.specs.declared.timing_call.Answer.{Answer}
+use Rattle.timing.specs.declared.timing_call.Answer.the-variants.{Growing}
 use Rattle.demands.specs.Buffers.{IsLoop}
 use Rattle.demands.specs.Rings.{Leads, RealRing}
 use Rattle.demands.proofs.Reading.{front-of, rest-of}
-use Rattle.demands.proofs.Outcome.{outcome, timed-defined, loop-shown, served-sound}
+use Rattle.demands.proofs.ByAnswer.{outcome, timed-defined, loop-shown, served-sound}
 
 walk-leads : (c : Circuit) (p : List ℕ) (i j : ℕ) → Walk (flow late c) i p j → Leads c i p j
 walk-leads c [] i j w = w

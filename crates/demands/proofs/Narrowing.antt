@@ -16,13 +16,13 @@ use Rattle.circuit.specs.Clock.{flow}
 use Rattle.circuit.specs.Times.{arrives, setupSlack, holdSlack, Met, missed, count, orMark}
 use Rattle.circuit.specs.Narrows.{Narrows, Narrowed}
 use Rattle.circuit.proofs.Sound.{Sound, good}
-use Rattle.circuit.proofs.Says.{met-exactly}
+use Rattle.circuit.proofs.RulesInWords.{met-exactly}
 use Rattle.circuit.proofs.Narrowing.{narrows-calm, narrowed}
-use Rattle.timing.specs.Promise.{Served, Timing}
-use Rattle.timing.specs.declared.call.Answer.{Answer}
-use Rattle.timing.specs.declared.call.Answer.the-variants.{Timed}
+use Rattle.timing.specs.TimingPromise.{Served, Timing}
+use Rattle.timing.specs.declared.timing_call.Answer.{Answer}
+use Rattle.timing.specs.declared.timing_call.Answer.the-variants.{Timed}
 use Rattle.demands.specs.Buffers.{Defined, Marked, Contained, Narrower, Calmer}
-use Rattle.demands.proofs.Outcome.{outcome, timed-served, timed-defined, loop-shown, served-sound}
+use Rattle.demands.proofs.ByAnswer.{outcome, timed-served, timed-defined, loop-shown, served-sound}
 
 -- fewer pass a test where whatever fails the other fails it
 count-fewer : (p q : ℕ → Bool) (n : ℕ) → ((i : ℕ) → i < n → q i ≡ false → p i ≡ false) → count p n ≤ count q n

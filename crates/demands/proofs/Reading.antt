@@ -9,7 +9,7 @@ use lib.ListN.{length, getD, take, drop, List·getD-append}
 use lib.Seq.{take-append-seam, drop-append-seam, getD-append-add}
 use Rattle.circuit.specs.Circuit.{Circuit}
 use Rattle.circuit.specs.Times.{six, results}
-use Rattle.timing.proofs.Six.{length-results}
+use Rattle.timing.proofs.SixResults.{length-results}
 use Rattle.demands.specs.Buffers.{number}
 
 module _ (c : Circuit) (E D : ℕ → ℤ) where

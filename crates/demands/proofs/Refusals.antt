@@ -12,18 +12,18 @@ use Rattle.image.specs.declared.checks.Checked.the-variants as check
 use Rattle.circuit.specs.Circuit.{circuitOf}
 use Rattle.circuit.proofs.Sound.{Sound, sound}
 use Rattle.circuit.proofs.Solved.{growing-exactly}
-use Rattle.timing.specs.Promise as timing
-use Rattle.timing.specs.Promise.{Timing}
-use Rattle.timing.specs.Paths as paths
-use Rattle.timing.specs.Paths.{PathCall}
-use Rattle.timing.specs.declared.call.Answer.{Answer}
-use Rattle.timing.specs.declared.call.Answer.the-variants.{Refused}
-use Rattle.timing.specs.declared.ask.Way.{Way}
-use Rattle.timing.specs.declared.ask.Way.the-variants as way
+use Rattle.timing.specs.TimingPromise as timing
+use Rattle.timing.specs.TimingPromise.{Timing}
+use Rattle.timing.specs.PathPromise as paths
+use Rattle.timing.specs.PathPromise.{PathCall}
+use Rattle.timing.specs.declared.timing_call.Answer.{Answer}
+use Rattle.timing.specs.declared.timing_call.Answer.the-variants.{Refused}
+use Rattle.timing.specs.declared.path_call.Way.{Way}
+use Rattle.timing.specs.declared.path_call.Way.the-variants as way
 use Rattle.timing.proofs.OnePath.{path-only}
 use Rattle.demands.specs.Rules.{TimingRule, PathRule}
 use Rattle.demands.specs.Rules as rules
-use Rattle.demands.proofs.Only.{timing-one}
+use Rattle.demands.proofs.OneOutcome.{timing-one}
 
 module _ (bytes : List ℕ) (numbers : List ℤ) (arcs : List ℕ) where
   timing-ruled : {rule culprit : ℕ} → TimingRule bytes numbers arcs rule culprit → Timing bytes numbers arcs (Refused rule culprit) numbers arcs

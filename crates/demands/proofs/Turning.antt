@@ -72,14 +72,14 @@ one-reading f (a ∷ x) (b ∷ y) i j v w l m d =
     absurd (apart f (a ∷ x) (b ∷ y) d .2 .0 .0 same)
 
 -- where a list of arcs leaves its lowest-numbered node
-record Lowest (f : Flow) (p : List ℕ) : Type 0 where
+record LowestArc (f : Flow) (p : List ℕ) : Type 0 where
   front : List ℕ
   arc : ℕ
   back : List ℕ
   whole : p ≡ front ++ (arc ∷ back)
   lowest : Every (λ s. f .source arc ≤ s) (sources f p)
 
-lowest : (f : Flow) (a : ℕ) (p : List ℕ) → Lowest f (a ∷ p)
+lowest : (f : Flow) (a : ℕ) (p : List ℕ) → LowestArc f (a ∷ p)
 lowest f a [] = record { front = []; arc = a; back = []; whole = refl; lowest = (omega arith, tt) }
 lowest f a (b ∷ p) =
     let h = lowest f b p in
@@ -101,11 +101,11 @@ lowest f a (b ∷ p) =
     ]
 
 -- a growing ring that starts at its lowest-numbered node
-abbrev pub Told : Flow → Type 0
-Told f = (r : GrowingRing f) × Every (λ i. r .ring .start ≤ i) (sources f (r .ring .path))
+abbrev pub FromLowest : Flow → Type 0
+FromLowest f = (r : GrowingRing f) × Every (λ i. r .ring .start ≤ i) (sources f (r .ring .path))
 
 turned : (f : Flow) (i a : ℕ) (x y : List ℕ) → Walk f i (x ++ (a ∷ y)) i → Distinct (sources f (x ++ (a ∷ y))) →
-    pos 0 <ℤ gain f (x ++ (a ∷ y)) → Every (λ s. f .source a ≤ s) (sources f (x ++ (a ∷ y))) → Told f
+    pos 0 <ℤ gain f (x ++ (a ∷ y)) → Every (λ s. f .source a ≤ s) (sources f (x ++ (a ∷ y))) → FromLowest f
 turned f i a x y w d g l =
     let s = walk-split f x (a ∷ y) i i w in
     let e = s .2 .0 .from in
@@ -124,14 +124,14 @@ turned f i a x y w d g l =
     )
 
 -- every growing ring has such a reading
-turn : (f : Flow) (i : ℕ) (p : List ℕ) → Walk f i p i → Distinct (sources f p) → pos 0 <ℤ gain f p → Lowest f p → Told f
+turn : (f : Flow) (i : ℕ) (p : List ℕ) → Walk f i p i → Distinct (sources f p) → pos 0 <ℤ gain f p → LowestArc f p → FromLowest f
 turn f i p w d g h =
     let e = h .whole in
     turned f i (h .arc) (h .front) (h .back) (rw e at w) (rw e at d) (rw e at g) (rw e at (h .lowest))
 
-pub told : (f : Flow) → GrowingRing f → Told f
+pub told : (f : Flow) → GrowingRing f → FromLowest f
 told f r = turn f (r .ring .start) (r .ring .path) (r .ring .closed) (r .ring .distinct) (r .grows) (go (r .ring .path) (r .ring .some))
   where
-    go : (p : List ℕ) → 0 < length p → Lowest f p
+    go : (p : List ℕ) → 0 < length p → LowestArc f p
     go [] n = let z : ⊥ = omega arith in absurd z
     go (a ∷ p) n = lowest f a p

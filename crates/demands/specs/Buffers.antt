@@ -10,8 +10,8 @@ use Rattle.flow.specs.Flow.{late, early}
 use Rattle.circuit.specs.Circuit.{Circuit}
 use Rattle.circuit.specs.Times as times
 use Rattle.circuit.specs.Times.{Times, missedSetups, missedHolds, arrives, orMark, mark}
-use Rattle.timing.specs.declared.call.Answer.{Answer}
-use Rattle.timing.specs.declared.call.Answer.the-variants.{Growing, Timed}
+use Rattle.timing.specs.declared.timing_call.Answer.{Answer}
+use Rattle.timing.specs.declared.timing_call.Answer.the-variants.{Growing, Timed}
 
 -- the answer of a call that times, and of one that shows a growing loop
 abbrev pub IsTimed : Answer → Type 0

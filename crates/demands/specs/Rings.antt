@@ -10,8 +10,8 @@ use Rattle.flow.specs.Flow.{late}
 use Rattle.flow.specs.Walk.{gain, sources, Every, Distinct}
 use Rattle.circuit.specs.Circuit.{Circuit}
 use Rattle.circuit.specs.Clock.{isLatch, flow}
-use Rattle.timing.specs.declared.call.Answer.{Answer}
-use Rattle.timing.specs.declared.call.Answer.the-variants.{Growing}
+use Rattle.timing.specs.declared.timing_call.Answer.{Answer}
+use Rattle.timing.specs.declared.timing_call.Answer.the-variants.{Growing}
 use Rattle.demands.specs.Buffers.{lateDeparture, lateArrival}
 
 -- the arcs lead from synchronizer i to synchronizer j, in order of travel

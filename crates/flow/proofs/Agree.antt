@@ -4,7 +4,8 @@ use mathlib.Core.Path.{_≡_, refl, sym, ap, _∙_}
 use Prim.Native.Nat.{ℕ, zero, suc, _<_}
 use lib.IntN.{ℤ}
 use Rattle.flow.specs.Flow.{Flow, Good, Side, When, at, brings, arrival, next, Least}
-use Rattle.flow.specs.Bounds.{Bounded, Agree, Nested, neither, nested}
+use Rattle.flow.specs.Bounds.{Nested, neither, nested}
+use Rattle.flow.specs.inside.Within.{Bounded, Agree}
 use Rattle.flow.specs.Rank.{Reaches, Rank}
 use Rattle.flow.proofs.Sides.{inside-refl, inside-antisym}
 use Rattle.flow.proofs.Within.{arrival-inside, within-self, kept-self}

@@ -10,8 +10,9 @@ use lib.Dec.{eqb}
 use lib.IntN.{ℤ}
 use borrow.Author.Tests.{eqb-true, eqb-false}
 use Rattle.flow.specs.Flow.{Flow, Side, When, none, at, join, brings, into, arrival}
-use Rattle.flow.specs.Bounds.{Inside, Unentered, Gives}
-use Rattle.flow.proofs.Below.{below-suc}
+use Rattle.flow.specs.Bounds.{Inside, Unentered}
+use Rattle.flow.specs.inside.Within.{Gives}
+use Rattle.flow.proofs.Pigeonhole.{below-suc}
 use Rattle.flow.proofs.Sides.{inside-refl, inside-antisym, inside-short, pick-case}
 
 -- what the first n arcs give
@@ -74,7 +75,7 @@ module _ (s : Side) (f : Flow) (D : ℕ → ℤ) (i : ℕ) where
     | no l ↦ elim (decLt b a) [ yes m ↦ absurd (h .lowest b m (k .enters) (k .gives)) | no m ↦ omega arith ]
   ]
 
-  -- the arrival, as document 01 says it
+  -- the arrival, as docs/RULES.md says it
   pub arrival-at : (t : ℤ) → arrival s f D i ≡ at t ↔ ((a : ℕ) × Gives s f D i (f .arcs) t a)
   arrival-at t = (to find, λ g. from find (g .0) (g .1))
     where

@@ -13,12 +13,14 @@ use lib.Signed.{_≤ℤ_, _<ℤ_}
 use Rattle.ticks.proofs.Ints.{ints, sum}
 use Rattle.ticks.proofs.Order.{≤ℤ-trans, ≤ℤ-eq, ≤ℤ-<ℤ-trans}
 use Rattle.ticks.proofs.Extremes.{max-left, greater}
-use Rattle.flow.specs.Flow.{Flow, Good, Side, late, early, When, at, brings, departs, next, round}
-use Rattle.flow.specs.Bounds.{Gives}
-use Rattle.flow.specs.Walk.{Step, routeBack, gain, GrowingRing}
-use Rattle.flow.proofs.Below.{Fresh, pigeons}
+use Rattle.flow.specs.Flow.{Flow, Good, Side, late, early, When, at, brings, departs, next}
+use Rattle.flow.specs.inside.Rounds.{round}
+use Rattle.flow.specs.inside.Within.{Gives}
+use Rattle.flow.specs.Walk.{Step, gain, GrowingRing}
+use Rattle.flow.specs.inside.WalkBack.{routeBack}
+use Rattle.flow.proofs.Pigeonhole.{Fresh, pigeons}
 use Rattle.flow.proofs.Arrival.{Found, nothing, found, find}
-use Rattle.flow.proofs.Next.{launch-next}
+use Rattle.flow.proofs.OneRound.{launch-next}
 use Rattle.flow.proofs.Rounds.{rises-by}
 use Rattle.flow.proofs.Joined.{gain-join}
 use Rattle.flow.proofs.Closing.{Steps, front, rest, ring-closed, ring-distinct}
@@ -95,7 +97,7 @@ back s f (suc n) j h =
     (p .0, link s f (suc n) j D _ (p .0) h (p .1), omega (ints, h, p .1 .most, p .1 .carry, sum (D i) w, sum (E i) w))
 
 -- nodes back from one that round n changed, each changed by the arc from the next
-pub record Trail (s : Side) (f : Flow) (n : ℕ) (node arc : ℕ → ℕ) : Type 0 where
+pub record RaisedTrail (s : Side) (f : Flow) (n : ℕ) (node arc : ℕ → ℕ) : Type 0 where
   pub small : (d : ℕ) → d ≤ n → node d < f .nodes
   pub link : (d k : ℕ) → d + suc k ≡ n → Link s f k (node (suc d)) (arc d) (node d)
 
@@ -104,7 +106,7 @@ record Chain (s : Side) (f : Flow) (n u : ℕ) : Type 0 where
   node : ℕ → ℕ
   arc : ℕ → ℕ
   ends : node 0 ≡ u
-  trail : Trail s f n node arc
+  trail : RaisedTrail s f n node arc
 
 abbrev push : ℕ → (ℕ → ℕ) → ℕ → ℕ
 push x g zero = x
@@ -143,7 +145,7 @@ grows-some f [] h = omega ints
 grows-some f (a ∷ p) h = omega arith
 
 -- what the rounds say of a walk's gain
-module _ (s : Side) (f : Flow) (n : ℕ) (node arc : ℕ → ℕ) (trail : Trail s f n node arc) where
+module _ (s : Side) (f : Flow) (n : ℕ) (node arc : ℕ → ℕ) (trail : RaisedTrail s f n node arc) where
   pub trail-steps : Steps f n node arc
   trail-steps = record {
     small = trail .small;

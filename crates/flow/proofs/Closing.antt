@@ -6,8 +6,9 @@ use mathlib.Core.Logic.{_≢_}
 use Prim.Native.Nat.{ℕ, zero, suc, _+_, _-_, _<_, _≤_}
 use native.Mathlib.Omega.{arith}
 use Rattle.flow.specs.Flow.{Flow}
-use Rattle.flow.specs.Walk.{Step, Walk, sources, Every, Distinct, routeBack}
-use Rattle.flow.proofs.Below.{Fresh, twice-apart}
+use Rattle.flow.specs.Walk.{Step, Walk, sources, Every, Distinct}
+use Rattle.flow.specs.inside.WalkBack.{routeBack}
+use Rattle.flow.proofs.Pigeonhole.{Fresh, twice-apart}
 use Rattle.flow.proofs.Joined.{every-join, distinct-join, sources-join, walk-join}
 
 pub record Steps (f : Flow) (n : ℕ) (node arc : ℕ → ℕ) : Type 0 where

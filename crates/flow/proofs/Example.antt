@@ -10,8 +10,9 @@ use lib.IntN.{ℤ, pos, negsuc, _+ℤ_}
 use lib.Signed.{_≤ℤ_, ≤ℤ-refl, ltZ-yes}
 use Rattle.ticks.specs.Extremes.{maxℤ, minℤ}
 use Rattle.ticks.proofs.Order.{plus-mono}
-use Rattle.flow.specs.Flow.{Flow, Good, late, early, at, into, arrival, next, round, Fits, Least, Settled}
-use Rattle.flow.specs.Bounds.{Within}
+use Rattle.flow.specs.Flow.{Flow, Good, late, early, at, into, arrival, next, Fits, Least}
+use Rattle.flow.specs.inside.Rounds.{round, Settled}
+use Rattle.flow.specs.inside.Within.{Within}
 use Rattle.flow.specs.Walk.{GrowingRing}
 use Rattle.flow.specs.Rank.{Reaches}
 use Rattle.flow.proofs.Rounds.{settled-least}

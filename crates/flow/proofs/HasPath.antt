@@ -11,7 +11,7 @@ use lib.ListN.{length}
 use Rattle.flow.specs.Flow.{Flow, Good, late, When, none, at, brings, arrival, Least}
 use Rattle.flow.specs.Rank.{Rank}
 use Rattle.flow.specs.Path.{Brought, Last, Back, PathTo}
-use Rattle.flow.proofs.Below.{some-or-all}
+use Rattle.flow.proofs.Pigeonhole.{some-or-all}
 use Rattle.flow.proofs.Arrival.{arrival-at, arrival-none}
 use Rattle.flow.proofs.Rank.{lowest-unique, lowest, rank, rank-back}
 use Rattle.flow.proofs.Path.{path-length}

@@ -1,10 +1,10 @@
-pub mod Below
+pub mod Pigeonhole
 pub mod Sides
 pub mod Arrival
-pub mod Next
+pub mod OneRound
 pub mod Within
 pub mod Rounds
-pub mod Room
+pub mod BoundedRounds
 pub mod Windows
 pub mod Walks
 pub mod Joined

@@ -12,13 +12,15 @@ use lib.IntN.{ℤ, pos, _+ℤ_}
 use lib.Signed.{_≤ℤ_, _<ℤ_}
 use Rattle.ticks.proofs.Ints.{ints, sum}
 use Rattle.ticks.proofs.Order.{compareℤ, ≤ℤ-eq}
-use Rattle.flow.specs.Flow.{Flow, late, brings, round}
-use Rattle.flow.specs.Walk.{routeBack, gain, GrowingRing}
-use Rattle.flow.proofs.Below.{Fresh}
+use Rattle.flow.specs.Flow.{Flow, late, brings}
+use Rattle.flow.specs.inside.Rounds.{round}
+use Rattle.flow.specs.Walk.{gain, GrowingRing}
+use Rattle.flow.specs.inside.WalkBack.{routeBack}
+use Rattle.flow.proofs.Pigeonhole.{Fresh}
 use Rattle.flow.proofs.Joined.{gain-join}
 use Rattle.flow.proofs.Closing.{Steps, front, rest, ring-closed, ring-distinct}
 use Rattle.flow.proofs.Chain.{grows-some}
-use Rattle.flow.proofs.Next.{arc-next}
+use Rattle.flow.proofs.OneRound.{arc-next}
 
 -- the arc a is a parent of node i, by the stamps t
 pub record Parent (f : Flow) (E : ℕ → ℤ) (t : ℕ → ℕ) (i a : ℕ) : Type 0 where

@@ -41,13 +41,13 @@ length-on : (p : List ℕ) (a : ℕ) → length (p ++ (a ∷ [])) ≡ suc (lengt
 length-on p a = simp length-append (omega arith)
 
 -- the sources have the ranks k, k + 1, .. in order of travel
-abbrev pub Climbs : Flow → (ℕ → ℤ) → ℕ → List ℕ → Type 0
-Climbs f D k [] = Unit {0}
-Climbs f D k (a ∷ p) = Rank f D (f .source a) k × Climbs f D (suc k) p
+abbrev pub RanksRise : Flow → (ℕ → ℤ) → ℕ → List ℕ → Type 0
+RanksRise f D k [] = Unit {0}
+RanksRise f D k (a ∷ p) = Rank f D (f .source a) k × RanksRise f D (suc k) p
 
 module _ (f : Flow) (D : ℕ → ℤ) where
   -- one arc more
-  climbs-on : (p : List ℕ) (k n a : ℕ) → length p + k ≡ n → Climbs f D k p → Rank f D (f .source a) n → Climbs f D k (p ++ (a ∷ []))
+  climbs-on : (p : List ℕ) (k n a : ℕ) → length p + k ≡ n → RanksRise f D k p → Rank f D (f .source a) n → RanksRise f D k (p ++ (a ∷ []))
   climbs-on [] k n a e h x = let z : n ≡ k = omega arith in (rw z at x, tt)
   climbs-on (b ∷ p) k n a e h x = (h .0, climbs-on p (suc k) n a (omega arith) (h .1) x)
 
@@ -65,7 +65,7 @@ module _ (f : Flow) (D : ℕ → ℤ) where
   back-length zero i s p h = rw (h .2)
   back-length (suc r) i s p h = rw (h .5) (length-on (h .1) (h .0) ∙ ap suc (back-length r (f .source (h .0)) s (h .1) (h .4)))
 
-  back-climbs : (r i s : ℕ) (p : List ℕ) → Back f D s r p i → Climbs f D 0 p
+  back-climbs : (r i s : ℕ) (p : List ℕ) → Back f D s r p i → RanksRise f D 0 p
   back-climbs zero i s p h = rw (h .2) tt
   back-climbs (suc r) i s p h =
       let j = f .source (h .0) in
@@ -99,7 +99,7 @@ module _ (f : Flow) (D : ℕ → ℤ) where
     pub path-launch : Rank f D s 0
     path-launch = back-launch (h .rank) (f .source (h .last)) s (h .before) (h .back)
 
-    pub path-climbs : Climbs f D 0 p
+    pub path-climbs : RanksRise f D 0 p
     path-climbs =
         let j = f .source (h .last) in
         let e = back-length (h .rank) j s (h .before) (h .back) in

@@ -7,10 +7,11 @@ use native.Mathlib.Decide.{decLt}
 use lib.IntN.{ℤ, ℤ-discrete}
 use Rattle.ticks.proofs.Ints.{ints, sum}
 use Rattle.ticks.proofs.Order.{≤ℤ-antisym}
-use Rattle.flow.specs.Flow.{Flow, Good, late, round, Fits, Least}
-use Rattle.flow.specs.Bounds.{Bounded}
+use Rattle.flow.specs.Flow.{Flow, Good, late, Fits, Least}
+use Rattle.flow.specs.inside.Rounds.{round}
+use Rattle.flow.specs.inside.Within.{Bounded}
 use Rattle.flow.specs.Rank.{Tight, Reaches, Lowest, Rank}
-use Rattle.flow.proofs.Next.{arc-next, set-by}
+use Rattle.flow.proofs.OneRound.{arc-next, set-by}
 use Rattle.flow.proofs.Rounds.{rounds-fits, least-unique}
 use Rattle.flow.proofs.Walks.{fits-holds, fits-calm}
 use Rattle.flow.proofs.Settles.{settles-least}

@@ -6,10 +6,11 @@ use native.Mathlib.Omega.{arith}
 use lib.IntN.{ℤ}
 use lib.Signed.{_<ℤ_, ≤ℤ-refl}
 use Rattle.ticks.proofs.Order.{≤ℤ-trans, ≤ℤ-antisym, compareℤ}
-use Rattle.flow.specs.Flow.{Flow, Good, Side, late, early, next, round, Fits, Least, Settled}
-use Rattle.flow.specs.Bounds.{Bounded, Agree, Within}
-use Rattle.flow.proofs.Below.{some-or-all}
-use Rattle.flow.proofs.Next.{launch-next}
+use Rattle.flow.specs.Flow.{Flow, Good, Side, late, early, next, Fits, Least}
+use Rattle.flow.specs.inside.Rounds.{round, Settled}
+use Rattle.flow.specs.inside.Within.{Bounded, Agree, Within}
+use Rattle.flow.proofs.Pigeonhole.{some-or-all}
+use Rattle.flow.proofs.OneRound.{launch-next}
 use Rattle.flow.proofs.Within.{next-inside, within-self}
 
 -- what g makes of times on its side s stays below what f makes of later times on its side r

@@ -4,7 +4,7 @@ use mathlib.Core.List.{List}
 use Prim.Native.Nat.{ℕ, zero, suc, _<_}
 use lib.IntN.{ℤ}
 use Rattle.flow.specs.Flow.{Flow, Good, late, Least}
-use Rattle.flow.specs.Bounds.{Agree}
+use Rattle.flow.specs.inside.Within.{Agree}
 use Rattle.flow.specs.Rank.{Lowest}
 use Rattle.flow.specs.Path.{Brought, Last, Back, PathTo}
 use Rattle.flow.proofs.Rounds.{least-unique}

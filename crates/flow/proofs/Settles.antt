@@ -4,8 +4,9 @@ use mathlib.Core.Logic.{_⊎_, inl, inr, _↔_}
 use Prim.Native.Nat.{ℕ, suc, _≤_}
 use native.Mathlib.Omega.{arith}
 use lib.IntN.{ℤ}
-use Rattle.flow.specs.Flow.{Flow, Good, Side, late, round, Fits, Least, Settled}
-use Rattle.flow.specs.Bounds.{Within}
+use Rattle.flow.specs.Flow.{Flow, Good, Side, late, Fits, Least}
+use Rattle.flow.specs.inside.Rounds.{round, Settled}
+use Rattle.flow.specs.inside.Within.{Within}
 use Rattle.flow.specs.Walk.{GrowingRing}
 use Rattle.flow.proofs.Rounds.{settled-or, settled-least}
 use Rattle.flow.proofs.Walks.{fits-holds, within-holds, holds-calm, fits-calm}

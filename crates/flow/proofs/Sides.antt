@@ -11,9 +11,9 @@ use Rattle.flow.specs.Flow.{Side, late, early, pick}
 use Rattle.flow.specs.Bounds.{Inside}
 
 -- x falls short of t
-abbrev pub Short : Side → ℤ → ℤ → Type 0
-Short late x t = x <ℤ t
-Short early x t = t <ℤ x
+abbrev pub StrictlyInside : Side → ℤ → ℤ → Type 0
+StrictlyInside late x t = x <ℤ t
+StrictlyInside early x t = t <ℤ x
 
 pub inside-refl : (s : Side) (x : ℤ) → Inside s x x
 inside-refl late x = ≤ℤ-refl x
@@ -35,10 +35,10 @@ pub inside-max : (s : Side) (a b c d : ℤ) → Inside s a c → Inside s b d �
 inside-max late a b c d h k = max-mono h k
 inside-max early a b c d h k = max-mono h k
 
-pub inside-short : (s : Side) (x y z : ℤ) → Inside s x y → Short s y z → Inside s x z × (x ≢ z)
+pub inside-short : (s : Side) (x y z : ℤ) → Inside s x y → StrictlyInside s y z → Inside s x z × (x ≢ z)
 inside-short late x y z h k = omega ints
 inside-short early x y z h k = omega ints
 
-pub pick-case : (s : Side) (x y : ℤ) → ((pick s x y ≡ x) × Inside s y x) ⊎ ((pick s x y ≡ y) × Short s x y)
+pub pick-case : (s : Side) (x y : ℤ) → ((pick s x y ≡ x) × Inside s y x) ⊎ ((pick s x y ≡ y) × StrictlyInside s x y)
 pick-case late x y = max-case x y
 pick-case early x y = min-case x y

@@ -6,11 +6,12 @@ use Prim.Native.Nat.{ℕ, zero, suc, _*_, _<_}
 use lib.IntN.{ℤ, pos, _+ℤ_}
 use lib.Signed.{_≤ℤ_, ≤ℤ-refl}
 use Rattle.ticks.proofs.Ints.{ints, sum}
-use Rattle.flow.specs.Flow.{Flow, Good, Side, at, arrival, round}
+use Rattle.flow.specs.Flow.{Flow, Good, Side, at, arrival}
+use Rattle.flow.specs.inside.Rounds.{round}
 use Rattle.flow.specs.Bounds.{Inside}
 use Rattle.flow.proofs.Sides.{inside-plus}
 use Rattle.flow.proofs.Arrival.{arrival-at}
-use Rattle.flow.proofs.Next.{launch-next, set-by}
+use Rattle.flow.proofs.OneRound.{launch-next, set-by}
 
 -- for r late a bound from above, for r early one from below
 pub arrival-size : (r s : Side) (f : Flow) → Good f → (D : ℕ → ℤ) (B W : ℤ) →

@@ -1,14 +1,16 @@
--- Updates in place rise from the launches and stay below all that fits. Where nothing is left to update they are the least departures. A pass that gives every node at least what the departures before it lead to is at least a round.
+-- Updates in place rise from the launches and stay below all that fits.
+-- Where nothing is left to update they are the least departures. A pass that gives every node at least what the departures before it lead to is at least a round.
 use mathlib.Core.Path.{sym}
 use Prim.Native.Nat.{ℕ, suc, _≤_}
 use native.Mathlib.Decide.{ℕ-discrete}
 use lib.IntN.{ℤ}
 use lib.Signed.{_≤ℤ_}
 use Rattle.ticks.proofs.Order.{≤ℤ-trans, ≤ℤ-eq}
-use Rattle.flow.specs.Flow.{Flow, Good, Side, late, next, round, Fits, Least}
-use Rattle.flow.specs.Bounds.{Bounded}
-use Rattle.flow.specs.Updates.{Update, Updated, launched, updated}
-use Rattle.flow.proofs.Next.{launch-next}
+use Rattle.flow.specs.Flow.{Flow, Good, Side, late, next, Fits, Least}
+use Rattle.flow.specs.inside.Rounds.{round}
+use Rattle.flow.specs.inside.Within.{Bounded}
+use Rattle.flow.specs.inside.Updates.{Update, Updated, launched, updated}
+use Rattle.flow.proofs.OneRound.{launch-next}
 use Rattle.flow.proofs.Rounds.{next-mono, fits-launch, rises}
 
 module _ (s : Side) (f : Flow) (good : Good f) where

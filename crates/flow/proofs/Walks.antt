@@ -8,25 +8,25 @@ use lib.Signed.{_≤ℤ_, _<ℤ_, ≤ℤ-refl}
 use Rattle.ticks.proofs.Ints.{ints, sum}
 use Rattle.ticks.proofs.Order.{≤ℤ-trans, plus-mono}
 use Rattle.flow.specs.Flow.{Flow, Good, late, brings, Fits}
-use Rattle.flow.specs.Bounds.{Within}
+use Rattle.flow.specs.inside.Within.{Within}
 use Rattle.flow.specs.Walk.{Walk, gain, sources, Every, Ring, GrowingRing}
-use Rattle.flow.proofs.Next.{arc-next}
+use Rattle.flow.proofs.OneRound.{arc-next}
 
 -- no arc brings a latch more than its departure
-abbrev pub Holds : Flow → (ℕ → ℤ) → Type 0
-Holds f D = (a : ℕ) → a < f .arcs → f .latch (f .target a) ≡ true → brings f D a ≤ℤ D (f .target a)
+abbrev pub Carried : Flow → (ℕ → ℤ) → Type 0
+Carried f D = (a : ℕ) → a < f .arcs → f .latch (f .target a) ≡ true → brings f D a ≤ℤ D (f .target a)
 
-pub fits-holds : (f : Flow) → Good f → (D : ℕ → ℤ) → Fits late f D → Holds f D
+pub fits-holds : (f : Flow) → Good f → (D : ℕ → ℤ) → Fits late f D → Carried f D
 fits-holds f good D fits a h e = rw (fits (f .target a) (good .enters a h)) (arc-next f D a h e)
 
-pub within-holds : (g f : Flow) → Good g → Within late g f → (D : ℕ → ℤ) → Holds f D → Holds g D
+pub within-holds : (g f : Flow) → Good g → Within late g f → (D : ℕ → ℤ) → Carried f D → Carried g D
 within-holds g f good w D holds a h e =
     let c = w .cover a h .1 in
     let k : f .latch (g .target a) ≡ true = sym (w .latch (g .target a) (good .enters a h)) ∙ e in
     let x = rw (c .source, c .target) at (holds (w .cover a h .0) (c .here) (rw (c .target) k)) in
     ≤ℤ-trans (plus-mono (≤ℤ-refl (D (g .source a))) (c .weight)) x
 
-module _ (f : Flow) (D : ℕ → ℤ) (holds : Holds f D) where
+module _ (f : Flow) (D : ℕ → ℤ) (holds : Carried f D) where
   walk-holds : (p : List ℕ) (i j : ℕ) → Walk f i p j → (D i +ℤ gain f p) ≤ℤ D j
   walk-holds [] i j e = rw e (omega (ints, sum (D j) (pos 0)))
   walk-holds (a ∷ p) i j w =

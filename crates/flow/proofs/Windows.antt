@@ -3,10 +3,11 @@
 use Prim.Native.Nat.{ℕ}
 use lib.IntN.{ℤ}
 use Rattle.flow.specs.Flow.{Flow, Good, Side, late, early, arrival, Fits, Least}
-use Rattle.flow.specs.Bounds.{Bounded, Nested, Kept, Within}
+use Rattle.flow.specs.Bounds.{Nested}
+use Rattle.flow.specs.inside.Within.{Bounded, Kept, Within}
 use Rattle.flow.proofs.Within.{arrival-inside}
 use Rattle.flow.proofs.Rounds.{within-ordered}
-use Rattle.flow.proofs.Room.{under-least}
+use Rattle.flow.proofs.BoundedRounds.{under-least}
 
 -- D solves g and E solves f: the one that is to come first is the least, of the other it is enough that it fits
 abbrev pub Solve : Side → Side → Flow → Flow → (ℕ → ℤ) → (ℕ → ℤ) → Type 0

@@ -63,11 +63,6 @@ departs true l (at t) = maxℤ t l
 unfoldable pub next : Side → Flow → (ℕ → ℤ) → ℕ → ℤ
 next s f D i = departs (f .latch i) (f .launch i) (arrival s f D i)
 
--- the departures after n rounds
-unfoldable pub round : Side → Flow → ℕ → ℕ → ℤ
-round s f zero = f .launch
-round s f (suc n) = next s f (round s f n)
-
 -- D is a solution of the equations
 abbrev pub Fits : Side → Flow → (ℕ → ℤ) → Type 0
 Fits s f D = (i : ℕ) → i < f .nodes → D i ≡ next s f D i
@@ -76,7 +71,3 @@ Fits s f D = (i : ℕ) → i < f .nodes → D i ≡ next s f D i
 pub record Least (s : Side) (f : Flow) (D : ℕ → ℤ) : Type 0 where
   pub fits : Fits s f D
   pub least : (E : ℕ → ℤ) → Fits s f E → (i : ℕ) → i < f .nodes → D i ≤ℤ E i
-
--- round n + 1 changes nothing
-abbrev pub Settled : Side → Flow → ℕ → Type 0
-Settled s f n = (i : ℕ) → i < f .nodes → round s f (suc n) i ≡ round s f n i

@@ -20,12 +20,6 @@ abbrev pub Walk : Flow → ℕ → List ℕ → ℕ → Type 0
 Walk f i [] j = i ≡ j
 Walk f i (a ∷ p) j = Step f i a × Walk f (f .target a) p j
 
--- d arcs of a walk back in order of travel, from place b on
-abbrev pub routeBack : (ℕ → ℕ) → ℕ → ℕ → List ℕ
-routeBack arc b zero = []
-routeBack arc zero (suc d) = []
-routeBack arc (suc b) (suc d) = arc b ∷ routeBack arc b d
-
 -- the sum of the weights
 abbrev pub gain : Flow → List ℕ → ℤ
 gain f [] = pos 0

@@ -10,16 +10,16 @@ use lib.ListN.{length, take}
 use lib.Seq.{length-take-le, take-all, getD-take}
 use borrow.Author.Tests.{le-ltb, leb-true, leb-false}
 use Rattle.image.specs.Words.{wordAt}
-use Rattle.image.specs.Kind.{headerOf, mostBytes}
+use Rattle.image.specs.Header.{headerBytes, headerOf, mostBytes}
 use Rattle.image.specs.Rules.{badCycle, badCounts, badLayout}
 use Rattle.image.specs.Checks.{refuse, checkOf}
 use Rattle.image.specs.Valid.{Valid}
-use Rattle.image.specs.declared.kind.Header.{Header}
+use Rattle.image.specs.declared.header.Header.{Header}
 use Rattle.image.specs.declared.checks.Checked.{Checked}
 use Rattle.image.specs.declared.checks.Checked.the-variants.{Refused}
 use Rattle.image.proofs.Validity.{counts-iff, layout-iff}
 
--- document 01's number
+-- the number of docs/RULES.md
 pub most-bytes : mostBytes ≡ 45216
 most-bytes = refl
 
@@ -45,7 +45,7 @@ pub long-is : (bytes : List ℕ) → mostBytes < length bytes → checkOf bytes 
 unfolding checkOf
 long-is bytes long =
     let h = headerOf bytes in
-    rw (le-ltb (length bytes) 32 (omega arith), last (badCounts h) _ refl)
+    rw (le-ltb (length bytes) headerBytes (omega arith), last (badCounts h) _ refl)
   where
     last : (b : Bool) (rest : Checked) → badCounts (headerOf bytes) ≡ b →
         refuse b 4 0 (refuse (badLayout (headerOf bytes) (length bytes)) 5 0 rest) ≡ refuse b 4 0 (Refused 5 0)
@@ -62,7 +62,7 @@ module _ (n : ℕ) (bytes : List ℕ) where
     getD-take n bytes (at + 3) 0 (omega arith),
   )
 
-  header-kept : 32 ≤ n → headerOf (take n bytes) ≡ headerOf bytes
+  header-kept : headerBytes ≤ n → headerOf (take n bytes) ≡ headerOf bytes
   unfolding headerOf
   header-kept h = rw (
     word-kept 0 (omega arith),

@@ -10,10 +10,12 @@ use native.Mathlib.Omega.{arith}
 use lib.ListN.{length}
 use borrow.Author.Tests.{le-leb, lt-leb}
 use denote.Ref.{RefT, now}
+use Rattle.image.specs.Words.{fitsOf}
+use Rattle.image.specs.Header.{phaseBytes, arcBytes}
 use Rattle.image.specs.Records.{placeOf, phaseAt, synchronizerAt, arcAt}
-use Rattle.image.specs.Reader.{fitsOf, placeOr, onwardOf, recordFrom, recordOrEnd, foundOf, readerAt, nextOf}
+use Rattle.image.specs.Reader.{placeOr, onwardOf, recordFrom, recordOrEnd, foundOf, readerAt, nextOf}
 use Rattle.image.specs.Valid.{Valid, imageIn}
-use Rattle.image.specs.declared.kind.Layout.{Layout}
+use Rattle.image.specs.declared.header.Layout.{Layout}
 use Rattle.image.specs.declared.reader.Table.{Table}
 use Rattle.image.specs.declared.reader.Table.the-variants.{Phases, Synchronizers, Arcs}
 use Rattle.image.specs.declared.reader.Record.the-variants as found
@@ -38,30 +40,30 @@ module _ (start size : ℕ) where
   stayed n h = ap (λ (b : Bool). placeOr b (placeOf start size n + size) (placeOf start size n)) (outside n h)
 
 -- handed out are the records of the table, whatever it is
-module _ (image : RefT (List ℕ)) (table : Table) (start size : ℕ) where
+module _ (bytes : RefT (List ℕ)) (table : Table) (start size : ℕ) where
   pub handed : (i n : ℕ) → i < n →
-      nextOf (readerAt image (placeOf start size i)) table size (placeOf start size n)
-      ≡ record { image = image; at = placeOf start size (suc i); found = recordFrom (now image) table (placeOf start size i) }
+      nextOf (readerAt bytes (placeOf start size i)) table size (placeOf start size n)
+      ≡ record { bytes = bytes; at = placeOf start size (suc i); found = recordFrom (now bytes) table (placeOf start size i) }
   unfolding foundOf
   handed i n h = λ j. record {
-    image = image;
+    bytes = bytes;
     at = moved start size i n h j;
-    found = recordOrEnd (inside start size i n h j) (recordFrom (now image) table (placeOf start size i));
+    found = recordOrEnd (inside start size i n h j) (recordFrom (now bytes) table (placeOf start size i));
   }
 
   pub ended : (n : ℕ) → zero < size →
-      nextOf (readerAt image (placeOf start size n)) table size (placeOf start size n)
-      ≡ record { image = image; at = placeOf start size n; found = found.End }
+      nextOf (readerAt bytes (placeOf start size n)) table size (placeOf start size n)
+      ≡ record { bytes = bytes; at = placeOf start size n; found = found.End }
   unfolding foundOf
   ended n h = λ j. record {
-    image = image;
+    bytes = bytes;
     at = stayed start size n h j;
-    found = recordOrEnd (outside start size n h j) (recordFrom (now image) table (placeOf start size n));
+    found = recordOrEnd (outside start size n h j) (recordFrom (now bytes) table (placeOf start size n));
   }
 
 -- and they are the records that `read` gives by their numbers
 module _ (bytes : List ℕ) (layout : Layout) (i : ℕ) where
-  pub phase-handed : recordFrom bytes Phases (placeOf (layout .phases) 8 i) ≡ found.Phase (phaseAt bytes layout i)
+  pub phase-handed : recordFrom bytes Phases (placeOf (layout .phases) phaseBytes i) ≡ found.Phase (phaseAt bytes layout i)
   unfolding phaseAt
   phase-handed = refl
 
@@ -70,18 +72,18 @@ module _ (bytes : List ℕ) (layout : Layout) (i : ℕ) where
   unfolding synchronizerAt
   synchronizer-handed = refl
 
-  pub arc-handed : recordFrom bytes Arcs (placeOf (layout .arcs) 16 i) ≡ found.Arc (arcAt bytes layout i)
+  pub arc-handed : recordFrom bytes Arcs (placeOf (layout .arcs) arcBytes i) ≡ found.Arc (arcAt bytes layout i)
   unfolding arcAt
   arc-handed = refl
 
 -- where the tables of a good image end
 module _ (bytes : List ℕ) (good : Valid bytes) where
-  pub phases-end : imageIn bytes .layout .synchronizers ≡ placeOf (imageIn bytes .layout .phases) 8 (imageIn bytes .phases)
+  pub phases-end : imageIn bytes .layout .synchronizers ≡ placeOf (imageIn bytes .layout .phases) phaseBytes (imageIn bytes .phases)
   phases-end = omega (arith, good .phase-table, good .synchronizer-table)
 
   pub synchronizers-end : imageIn bytes .layout .arcs
       ≡ placeOf (imageIn bytes .layout .synchronizers) (imageIn bytes .layout .«synchronizer_bytes») (imageIn bytes .synchronizers)
   synchronizers-end = omega (arith, good .synchronizer-table, good .arc-table)
 
-  pub arcs-end : length bytes ≡ placeOf (imageIn bytes .layout .arcs) 16 (imageIn bytes .arcs)
+  pub arcs-end : length bytes ≡ placeOf (imageIn bytes .layout .arcs) arcBytes (imageIn bytes .arcs)
   arcs-end = omega (arith, good .arc-table, good .total)

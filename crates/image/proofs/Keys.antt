@@ -7,10 +7,10 @@ use Prim.Native.Nat.{ℕ, _+_, _-_, _*_, _<_, _≤_, _^_}
 use native.Mathlib.Omega.{arith}
 use native.Mathlib.Decide.{decLt}
 use lib.Dec.{ltb, leb}
-use Rattle.image.specs.Kind.{longestDelay}
+use Rattle.image.specs.Header.{longestDelay}
 use Rattle.image.specs.Records.{arcAt}
 use Rattle.image.specs.Rules.{precedes, badOrder}
-use Rattle.image.specs.declared.kind.Image.{Image}
+use Rattle.image.specs.declared.header.Image.{Image}
 use Rattle.image.specs.declared.records.Arc.{Arc}
 use Rattle.image.proofs.Tests.{ltb-iff, leb-iff, below-iff, same-iff, or-iff, and-iff, both-iff, either-iff, not-iff}
 
@@ -23,7 +23,8 @@ keys-rise a b h l =
     (elim (decLt (a .to) (b .to)) [ yes p ↦ inl p | no p ↦ inr (omega arith, omega arith) ])
 
 -- rule 9 of arc i, from what was kept of the arc before
-pub in-order : (bytes : List ℕ) (image : Image) (i next : ℕ) → arcAt bytes (image .layout) i .from < 2 ^ 32 → (0 < i → next ≡ keyOf (arcAt bytes (image .layout) (i - 1)) + 1) → next ≤ keyOf (arcAt bytes (image .layout) i) → badOrder bytes image i ≡ false
+pub in-order : (bytes : List ℕ) (image : Image) (i next : ℕ) → (let arc = arcAt bytes (image .layout) in
+    arc i .from < 2 ^ 32 → (0 < i → next ≡ keyOf (arc (i - 1)) + 1) → next ≤ keyOf (arc i) → badOrder bytes image i ≡ false)
 unfolding badOrder
 in-order bytes image i next small kept l =
     and-iff _ _ (below-iff 0 i) (not-iff _ (λ h. h, λ h. h)) .1

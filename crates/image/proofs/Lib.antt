@@ -2,12 +2,13 @@
 pub mod Enough
 pub mod Found
 pub mod Handing
-pub mod Held
+pub mod ReaderSteps
 pub mod Keys
-pub mod Lowest
-pub mod Only
+pub mod FirstBad
+pub mod OneOutcome
 pub mod Orders
-pub mod Places
+pub mod RecordPlaces
 pub mod Tests
 pub mod Validity
+pub mod WalkSteps
 pub mod Words

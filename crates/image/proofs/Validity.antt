@@ -9,17 +9,16 @@ use native.Mathlib.Omega.{arith}
 use lib.Dec.{ltb, eqb}
 use lib.ListN.{length}
 use borrow.Author.Tests.{ltb-false, le-ltb}
-use Rattle.image.specs.Kind.{headerOf, mostPhases, mostSynchronizers, mostArcs, longestCycle, longestDelay}
+use Rattle.image.specs.Header.{headerBytes, phaseBytes, synchronizerBytes, arcBytes, headerOf, mostPhases, mostSynchronizers, mostArcs, longestCycle, longestDelay}
 use Rattle.image.specs.Rules.{badCycle, badCounts, badLayout, badPhase, badSynchronizer, badArc, badOrder, lowestOf, precedes}
 use Rattle.image.specs.Checks.{refuse, recordsOf, checkOf}
 use Rattle.image.specs.Valid.{imageIn, phaseIn, synchronizerIn, arcIn, Before, Valid}
-use Rattle.image.specs.declared.kind.Header.{Header}
-use Rattle.image.specs.declared.kind.Image.{Image}
+use Rattle.image.specs.declared.header.Header.{Header}
+use Rattle.image.specs.declared.header.Image.{Image}
 use Rattle.image.specs.declared.records.Arc.{Arc}
-use Rattle.image.specs.declared.rules.Rule.the-variants as rule
 use Rattle.image.specs.declared.checks.Checked.{Checked}
 use Rattle.image.specs.declared.checks.Checked.the-variants.{Good}
-use Rattle.image.proofs.Lowest.{lowest-is, lowest-none}
+use Rattle.image.proofs.FirstBad.{lowest-is, lowest-none}
 use Rattle.image.proofs.Tests.{ltb-iff, leb-iff, differs-iff, below-iff, same-iff, or-iff, and-iff, either-iff, both-iff, not-iff}
 
 good-iff : (b : Bool) (rule culprit : ℕ) (rest : Checked) (x : Image) → (refuse b rule culprit rest ≡ Good x) ↔ ((b ≡ false) × (rest ≡ Good x))
@@ -40,15 +39,15 @@ pub counts-iff : (h : Header) → (badCounts h ≡ false) ↔
 counts-iff h = or-iff _ _ (or-iff _ _ (or-iff _ _ (ltb-iff _ _) (ltb-iff _ _)) (ltb-iff _ _)) (ltb-iff _ _)
 
 pub layout-iff : (h : Header) (n : ℕ) → (badLayout h n ≡ false) ↔
-    ((((h .«phase_table» ≡ 32)
-    × (h .«synchronizer_table» ≡ 32 + 8 * h .phases))
-    × (h .«arc_table» ≡ 32 + 8 * h .phases + 24 * h .synchronizers))
-    × (n ≡ 32 + 8 * h .phases + 24 * h .synchronizers + 16 * h .arcs))
+    ((((h .«phase_table» ≡ headerBytes)
+    × (h .«synchronizer_table» ≡ headerBytes + phaseBytes * h .phases))
+    × (h .«arc_table» ≡ headerBytes + phaseBytes * h .phases + synchronizerBytes * h .synchronizers))
+    × (n ≡ headerBytes + phaseBytes * h .phases + synchronizerBytes * h .synchronizers + arcBytes * h .arcs))
 layout-iff h n = or-iff _ _ (or-iff _ _ (or-iff _ _ (differs-iff _ _) (differs-iff _ _)) (differs-iff _ _)) (differs-iff _ _)
 
 -- every test of the table fails
-pub record Passed (bytes : List ℕ) : Type 0 where
-  pub long : ltb (length bytes) 32 ≡ false
+pub record RulesPassed (bytes : List ℕ) : Type 0 where
+  pub long : ltb (length bytes) headerBytes ≡ false
   pub version : not (eqb (headerOf bytes .version) 1) ≡ false
   pub cycle : badCycle (headerOf bytes) ≡ false
   pub counts : badCounts (headerOf bytes) ≡ false
@@ -59,10 +58,10 @@ pub record Passed (bytes : List ℕ) : Type 0 where
   pub order : (i : ℕ) → i < imageIn bytes .arcs → badOrder bytes (imageIn bytes) i ≡ false
 
 module _ (bytes : List ℕ) where
-  pub passed : (x : Image) → checkOf bytes ≡ Good x → Passed bytes
+  pub passed : (x : Image) → checkOf bytes ≡ Good x → RulesPassed bytes
   unfolding checkOf recordsOf
   passed x h =
-      let long = good-iff (ltb (length bytes) 32) _ _ _ x .0 h in
+      let long = good-iff (ltb (length bytes) headerBytes) _ _ _ x .0 h in
       let version = good-iff _ _ _ _ x .0 (long .1) in
       let cycle = good-iff _ _ _ _ x .0 (version .1) in
       let counts = good-iff _ _ _ _ x .0 (cycle .1) in
@@ -83,7 +82,7 @@ module _ (bytes : List ℕ) where
         order = none-iff _ _ .0 (order .0);
       }
 
-  pub accepted : Passed bytes → checkOf bytes ≡ Good (imageIn bytes)
+  pub accepted : RulesPassed bytes → checkOf bytes ≡ Good (imageIn bytes)
   unfolding checkOf recordsOf
   accepted p =
       good-iff _ _ _ _ _ .1 (
@@ -166,7 +165,7 @@ module _ (bytes : List ℕ) where
     order-iff = and-iff _ _ (below-iff _ _) (before-iff (arcIn bytes (i - 1)) (arcIn bytes i))
 
   -- each rule's negation, from the tests
-  pub valid : Passed bytes → Valid bytes
+  pub valid : RulesPassed bytes → Valid bytes
   valid p =
       let cycle = cycle-iff .0 (p .cycle) in
       let counts = counts-iff (headerOf bytes) .0 (p .counts) in
@@ -205,7 +204,7 @@ module _ (bytes : List ℕ) where
       }
 
   -- and the tests, from each rule's negation
-  pub fails : Valid bytes → Passed bytes
+  pub fails : Valid bytes → RulesPassed bytes
   fails v = record {
     long = ltb-iff _ _ .1 (v .long);
     version = differs-iff _ _ .1 (v .version);

@@ -1,12 +1,12 @@
--- What a check of an image answers: the rules in document 01's order, the first that applies being given.
+-- What a check of an image answers: the rules in their order (docs/RULES.md), the first that applies being given.
 use Prim.Native.Nat.{ℕ}
 use mathlib.Core.Bool.{Bool, true, false, not}
 use mathlib.Core.List.{List}
 use lib.Dec.{ltb, eqb}
 use lib.ListN.{length}
-use Rattle.image.specs.Kind.{headerOf, imageOf}
+use Rattle.image.specs.Header.{headerBytes, headerOf, imageOf}
 use Rattle.image.specs.Rules.{badCycle, badCounts, badLayout, breaksOf, lowestOf}
-use Rattle.image.specs.declared.kind.Image.{Image}
+use Rattle.image.specs.declared.header.Image.{Image}
 use Rattle.image.specs.declared.rules.Rule.the-variants.{Phases, Synchronizers, Arcs, Order}
 use Rattle.image.specs.declared.checks.Checked.{Checked}
 use Rattle.image.specs.declared.checks.Checked.the-variants.{Good, Refused}
@@ -32,7 +32,7 @@ recordsOf bytes image =
 unfoldable pub checkOf : List ℕ → Checked
 checkOf bytes =
     let header = headerOf bytes in
-    refuse (ltb (length bytes) 32) 1 0
+    refuse (ltb (length bytes) headerBytes) 1 0
     (refuse (not (eqb (header .version) 1)) 2 0
     (refuse (badCycle header) 3 0
     (refuse (badCounts header) 4 0

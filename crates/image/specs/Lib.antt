@@ -1,5 +1,5 @@
 pub mod Words
-pub mod Kind
+pub mod Header
 pub mod Records
 pub mod Reader
 pub mod Rules

@@ -1,10 +1,10 @@
--- A reader holds an image and a place in it, and hands out the records of a table in order. Here is what it finds at its place, and where
+-- A reader holds the bytes of an image and a place in them, and hands out the records of a table in order. Here is what it finds at its place, and where
 -- it stands afterwards, where the table ends at the byte `end`.
 use Prim.Native.Nat.{ℕ, _+_}
 use mathlib.Core.Bool.{Bool, true, false}
 use mathlib.Core.List.{List}
-use lib.Dec.{leb}
 use denote.Ref.{RefT, now}
+use Rattle.image.specs.Words.{fitsOf}
 use Rattle.image.specs.Records.{phaseFrom, synchronizerFrom, arcFrom}
 use Rattle.image.specs.declared.reader.Reader.{Reader}
 use Rattle.image.specs.declared.reader.Next.{Next}
@@ -12,10 +12,6 @@ use Rattle.image.specs.declared.reader.Record.{Record}
 use Rattle.image.specs.declared.reader.Record.the-variants as found
 use Rattle.image.specs.declared.reader.Table.{Table}
 use Rattle.image.specs.declared.reader.Table.the-variants.{Phases, Synchronizers, Arcs}
-
--- a record of that size ends no later than the table
-abbrev pub fitsOf : ℕ → ℕ → ℕ → Bool
-fitsOf at size end = leb (at + size) end
 
 abbrev pub placeOr : Bool → ℕ → ℕ → ℕ
 placeOr true behind at = behind
@@ -39,10 +35,10 @@ recordOrEnd false r = found.End
 unfoldable pub foundOf : List ℕ → Table → ℕ → ℕ → ℕ → Record
 foundOf bytes table at size end = recordOrEnd (fitsOf at size end) (recordFrom bytes table at)
 
--- a reader of that image, at that place
+-- a reader of those bytes, at that place
 abbrev pub readerAt : RefT (List ℕ) → ℕ → Reader
-readerAt image at = record { image = image; at = at }
+readerAt bytes at = record { bytes = bytes; at = at }
 
--- the reader moved on, with what it found: of the same image, behind the record that it found
+-- the reader moved on, with what it found: of the same bytes, behind the record that it found
 abbrev pub nextOf : Reader → Table → ℕ → ℕ → Next
-nextOf r table size end = record { image = r .image; at = onwardOf (r .at) size end; found = foundOf (now (r .image)) table (r .at) size end }
+nextOf r table size end = record { bytes = r .bytes; at = onwardOf (r .at) size end; found = foundOf (now (r .bytes)) table (r .at) size end }

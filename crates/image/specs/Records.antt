@@ -2,7 +2,8 @@
 use Prim.Native.Nat.{ℕ, _+_, _*_}
 use mathlib.Core.List.{List}
 use Rattle.image.specs.Words.{wordAt}
-use Rattle.image.specs.declared.kind.Layout.{Layout}
+use Rattle.image.specs.Header.{phaseBytes, arcBytes}
+use Rattle.image.specs.declared.header.Layout.{Layout}
 use Rattle.image.specs.declared.records.Phase.{Phase}
 use Rattle.image.specs.declared.records.Synchronizer.{Synchronizer}
 use Rattle.image.specs.declared.records.Arc.{Arc}
@@ -35,10 +36,10 @@ arcFrom bytes at = record {
 
 -- record i of its table
 unfoldable pub phaseAt : List ℕ → Layout → ℕ → Phase
-phaseAt bytes layout i = phaseFrom bytes (placeOf (layout .phases) 8 i)
+phaseAt bytes layout i = phaseFrom bytes (placeOf (layout .phases) phaseBytes i)
 
 unfoldable pub synchronizerAt : List ℕ → Layout → ℕ → Synchronizer
 synchronizerAt bytes layout i = synchronizerFrom bytes (placeOf (layout .synchronizers) (layout .«synchronizer_bytes») i)
 
 unfoldable pub arcAt : List ℕ → Layout → ℕ → Arc
-arcAt bytes layout i = arcFrom bytes (placeOf (layout .arcs) 16 i)
+arcAt bytes layout i = arcFrom bytes (placeOf (layout .arcs) arcBytes i)

@@ -1,12 +1,12 @@
--- What a good image guarantees: the negation of each rule of document 01's table, for the crates above to cite.
+-- What a good image guarantees: the negation of each rule (docs/RULES.md), for the crates above to cite.
 use mathlib.Core.Path.{_≡_}
 use mathlib.Core.List.{List}
 use mathlib.Core.Logic.{_⊎_}
 use Prim.Native.Nat.{ℕ, suc, _+_, _*_, _≤_, _<_}
 use lib.ListN.{length}
-use Rattle.image.specs.Kind.{headerOf, imageOf, mostPhases, mostSynchronizers, mostArcs, longestCycle, longestDelay}
+use Rattle.image.specs.Header.{headerOf, imageOf, mostPhases, mostSynchronizers, mostArcs, longestCycle, longestDelay, headerBytes, phaseBytes, synchronizerBytes, arcBytes}
 use Rattle.image.specs.Records.{phaseAt, synchronizerAt, arcAt}
-use Rattle.image.specs.declared.kind.Image.{Image}
+use Rattle.image.specs.declared.header.Image.{Image}
 use Rattle.image.specs.declared.records.Phase.{Phase}
 use Rattle.image.specs.declared.records.Synchronizer.{Synchronizer}
 use Rattle.image.specs.declared.records.Arc.{Arc}
@@ -47,7 +47,7 @@ abbrev pub Before : Arc → Arc → Type 0
 Before a b = (a .to < b .to) ⊎ ((a .to ≡ b .to) × (a .from < b .from))
 
 pub record Valid (bytes : List ℕ) : Type 0 where
-  pub long : 32 ≤ length bytes
+  pub long : headerBytes ≤ length bytes
   pub version : headerOf bytes .version ≡ 1
   pub some-cycle : 1 ≤ imageIn bytes .cycle
   pub cycle : imageIn bytes .cycle ≤ longestCycle
@@ -55,10 +55,10 @@ pub record Valid (bytes : List ℕ) : Type 0 where
   pub phases : imageIn bytes .phases ≤ mostPhases
   pub synchronizers : imageIn bytes .synchronizers ≤ mostSynchronizers
   pub arcs : imageIn bytes .arcs ≤ mostArcs
-  pub phase-table : imageIn bytes .layout .phases ≡ 32
-  pub synchronizer-table : imageIn bytes .layout .synchronizers ≡ 32 + 8 * imageIn bytes .phases
-  pub arc-table : imageIn bytes .layout .arcs ≡ 32 + 8 * imageIn bytes .phases + 24 * imageIn bytes .synchronizers
-  pub total : length bytes ≡ 32 + 8 * imageIn bytes .phases + 24 * imageIn bytes .synchronizers + 16 * imageIn bytes .arcs
+  pub phase-table : imageIn bytes .layout .phases ≡ headerBytes
+  pub synchronizer-table : imageIn bytes .layout .synchronizers ≡ headerBytes + phaseBytes * imageIn bytes .phases
+  pub arc-table : imageIn bytes .layout .arcs ≡ headerBytes + phaseBytes * imageIn bytes .phases + synchronizerBytes * imageIn bytes .synchronizers
+  pub total : length bytes ≡ headerBytes + phaseBytes * imageIn bytes .phases + synchronizerBytes * imageIn bytes .synchronizers + arcBytes * imageIn bytes .arcs
   pub phase : (i : ℕ) → i < imageIn bytes .phases → ValidPhase (imageIn bytes .cycle) (phaseIn bytes i)
   pub rising : (i : ℕ) → suc i < imageIn bytes .phases → phaseIn bytes i .closing ≤ phaseIn bytes (suc i) .closing
   pub last : (i : ℕ) → suc i ≡ imageIn bytes .phases → phaseIn bytes i .closing ≡ imageIn bytes .cycle

@@ -1,7 +1,13 @@
 -- Bytes and words of an image. An image is the list of its bytes, and whatever lies past its end reads 0.
 use Prim.Native.Nat.{ℕ, _+_, _*_}
+use mathlib.Core.Bool.{Bool}
 use mathlib.Core.List.{List}
+use lib.Dec.{leb}
 use lib.ListN.{getD}
+
+-- `size` bytes from a place on end no later than at `end`
+abbrev pub fitsOf : ℕ → ℕ → ℕ → Bool
+fitsOf at size end = leb (at + size) end
 
 abbrev pub byteAt : List ℕ → ℕ → ℕ
 byteAt bytes at = getD bytes at 0

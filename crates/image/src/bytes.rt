@@ -3,8 +3,14 @@
 ghost use mathlib.Core.Path.{_≡_};
 ghost use Prim.Native.Nat.{_+_, _≤_};
 ghost use lib.ListN.{length};
-ghost use Rattle.image.specs.Words.{byteAt, wordAt, little};
-use crate::reader::fits;
+ghost use Rattle.image.specs.Words.{fitsOf, byteAt, wordAt, little};
+
+// Do `size` bytes from a place on end no later than at `end`?
+pub(crate) fn fits(at: usize, size: usize, end: usize) -> bool
+    ensures { λ r. ⌜ r ≡ fitsOf at size end ⌝ }
+{
+    if at <= end { size <= end - at } else { false }
+}
 
 fn byte(bytes: &[u8], at: usize) -> u8
     ensures { λ r. ⌜ r ≡ byteAt (now (bytes .entry)) at ⌝ }

@@ -1,8 +1,8 @@
 // Is an image good, and if not, by which rule is it refused?
 ghost use mathlib.Core.Path.{_≡_};
 ghost use Rattle.image.specs.Checks.{checkOf, recordsOf};
-use crate::kind::Header;
-use crate::kind::Image;
+use crate::header::Header;
+use crate::header::Image;
 use crate::rules::Rule;
 use crate::rules::arcs_good;
 use crate::rules::bad_counts;
@@ -11,7 +11,7 @@ use crate::rules::bad_layout;
 use crate::rules::lowest;
 use crate::rules::synchronizers_good;
 
-// A good image, with what it says of itself; or document 01's number of the rule that refuses it, with the lowest record
+// A good image, with what it says of itself; or the number of the rule that refuses it (docs/RULES.md), with the lowest record
 // at fault, which is 0 for rules 1 to 5.
 pub enum Checked {
     Good(Image),

@@ -1,8 +1,10 @@
 // Reading: from the bytes of a circuit image to its records, or to the rule by which the image is refused.
-// The format, the limits and the nine rules are document 01's; specs/ holds them as definitions.
+// The format, the limits and the nine rules are in docs/RULES.md; specs/ holds them as definitions.
+// From below to above: bytes, header, records, reader, numbered, rules, checks. None uses a module above it.
 mod bytes;
 mod checks;
-mod kind;
+mod header;
+mod numbered;
 mod reader;
 mod records;
 mod rules;
@@ -10,10 +12,10 @@ mod rules;
 pub use bytes::word;
 pub use checks::Checked;
 pub use checks::check;
-pub use kind::Header;
-pub use kind::Image;
-pub use kind::Layout;
-pub use kind::Part;
+pub use header::Header;
+pub use header::Image;
+pub use header::Layout;
+pub use header::Part;
 pub use reader::Next;
 pub use reader::Reader;
 pub use reader::Record;

@@ -1,15 +1,16 @@
-// A reader holds the caller's image and a place in it, and hands out the records of a table in order. A table ends at a byte that the
-// caller names, and its records are those that end no later. Any image, any place, any size and any end will do: past the end of the image
+// A reader holds the caller's bytes and a place in them, and hands out the records of a table in order. A table ends at a byte that the
+// caller names, and its records are those that end no later. Any bytes, any place, any size and any end will do: past the end of the bytes
 // every field reads 0.
 // The functions over the reader are thin: each takes it apart and calls functions on the slice and the numbers, which hold all branches.
 ghost use mathlib.Core.Path.{_≡_};
-ghost use Rattle.image.specs.Reader.{fitsOf, onwardOf, foundOf, readerAt, nextOf};
+ghost use Rattle.image.specs.Reader.{onwardOf, foundOf, readerAt, nextOf};
+use crate::bytes::fits;
 use crate::records::Arc;
 use crate::records::Phase;
 use crate::records::Synchronizer;
 
 pub struct Reader<'a> {
-    pub image: &'a [u8],
+    pub bytes: &'a [u8],
     pub at: usize,
 }
 
@@ -29,18 +30,11 @@ pub enum Record {
 }
 
 // The reader moved on, and what it found. An enum cannot hold a reference, so the answer stands beside the reader's fields;
-// `Reader::new(next.image, next.at)` reads on.
+// `Reader::new(next.bytes, next.at)` reads on.
 pub struct Next<'a> {
-    pub image: &'a [u8],
+    pub bytes: &'a [u8],
     pub at: usize,
     pub found: Record,
-}
-
-// Does a record of that size end no later than the table?
-pub(crate) fn fits(at: usize, size: usize, end: usize) -> bool
-    ensures { λ r. ⌜ r ≡ fitsOf at size end ⌝ }
-{
-    if at <= end { size <= end - at } else { false }
 }
 
 // The place behind the record; where the table has none there, the place itself.
@@ -65,10 +59,10 @@ fn found(bytes: &[u8], table: Table, at: usize, size: usize, end: usize) -> Reco
 }
 
 impl<'a> Reader<'a> {
-    pub fn new(image: &'a [u8], at: usize) -> Reader<'a>
-        ensures { λ r. ⌜ r ≡ readerAt (image .entry) at ⌝ }
+    pub fn new(bytes: &'a [u8], at: usize) -> Reader<'a>
+        ensures { λ r. ⌜ r ≡ readerAt (bytes .entry) at ⌝ }
     {
-        Reader { image, at }
+        Reader { bytes, at }
     }
 
     // Where the reader stands.
@@ -82,11 +76,11 @@ impl<'a> Reader<'a> {
     pub fn next(self, table: Table, size: usize, end: usize) -> Next<'a>
         ensures { λ r. ⌜ r ≡ nextOf (self .entry) table size end ⌝ }
     {
-        let image = self.image;
+        let bytes = self.bytes;
         let place = self.at;
-        let found = found(image, table, place, size, end);
+        let found = found(bytes, table, place, size, end);
         let at = onward(place, size, end);
-        Next { image, at, found }
+        Next { bytes, at, found }
     }
 }
 

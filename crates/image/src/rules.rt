@@ -1,13 +1,14 @@
-// Document 01's rules 3 to 9, as tests. Each gives what the definition of the same name in specs/Rules.antt gives.
+// Rules 3 to 9 of docs/RULES.md, as tests. Each gives what the definition of the same name in specs/Rules.antt gives.
 // The tests of one rule are joined by `|` and `&`, which ask all of them: the code is then one expression, as the rule is.
 ghost use mathlib.Core.Path.{_≡_};
 ghost use mathlib.Core.Bool.{true};
 ghost use Prim.Native.Nat.{_-_};
 ghost use Rattle.image.specs.declared.rules.Rule.the-variants.{Synchronizers, Arcs, Order};
-ghost use Rattle.image.specs.Rules.{badCycle, badCounts, badLayout, badPhase, synchronizerFails, badSynchronizer, arcFails, badArc, badOrder, breaksOf, lowestOf};
-use crate::kind::Header;
-use crate::kind::Image;
-use crate::kind::Part;
+ghost use Rattle.image.specs.Rules.{badCycle, badCounts, badLayout, badPhase, synchronizerFails, badSynchronizer};
+ghost use Rattle.image.specs.Rules.{arcFails, badArc, badOrder, breaksOf, NoneBreaks, lowestOf};
+use crate::header::Header;
+use crate::header::Image;
+use crate::header::Part;
 use crate::records::Arc;
 use crate::records::Phase;
 use crate::records::Synchronizer;
@@ -132,7 +133,7 @@ pub(crate) fn lowest(bytes: &[u8], image: Image, rule: Rule, count: u32) -> u32
 // Is it plain that no synchronizer breaks rule 7? A good image is told by this and `arcs_good`, with one look at each record. Where the
 // answer is no, `lowest` finds the rule and the record.
 pub(crate) fn synchronizers_good(bytes: &[u8], image: Image) -> bool
-    ensures { λ r. ⌜ (r ≡ true → lowestOf (breaksOf (now (bytes .entry)) image Synchronizers) (image .synchronizers) ≡ image .synchronizers) ⌝ }
+    ensures { λ r. ⌜ (r ≡ true → NoneBreaks (now (bytes .entry)) image Synchronizers) ⌝ }
 {
     let many = image.synchronizers;
     let mut i: u32 = 0;
@@ -149,7 +150,7 @@ pub(crate) fn synchronizers_good(bytes: &[u8], image: Image) -> bool
 // Is it plain that no arc breaks rule 8 or rule 9? Each arc is read once, and asked both. Of the arc before, its key is kept: one number,
 // in which `to` weighs more than any `from`, so that arcs are in order where their keys rise. No key may be below `next`.
 pub(crate) fn arcs_good(bytes: &[u8], image: Image) -> bool
-    ensures { λ r. ⌜ (r ≡ true → (lowestOf (breaksOf (now (bytes .entry)) image Arcs) (image .arcs) ≡ image .arcs) × (lowestOf (breaksOf (now (bytes .entry)) image Order) (image .arcs) ≡ image .arcs)) ⌝ }
+    ensures { λ r. ⌜ (r ≡ true → NoneBreaks (now (bytes .entry)) image Arcs × NoneBreaks (now (bytes .entry)) image Order) ⌝ }
 {
     let count = image.arcs;
     let mut next: u64 = 0;

@@ -8,9 +8,10 @@ use lib.Dec.{ltb}
 use lib.ListN.{length, take, drop, length-append}
 use lib.Seq.{length-take-le, take-length, take-at}
 use borrow.Author.Tests.{lt-ltb, le-ltb}
+use Rattle.report.specs.Limits.{LONGEST}
 use Rattle.report.specs.Promise.{reportOf, Report}
 use Rattle.report.proofs.Fits.{report-fits}
-use Rattle.interface.specs.Promise.{blank, copied, ReportCall}
+use Rattle.interface.specs.Promise.{blank, copied, ReportForC}
 
 module _ {bytes : List ℕ} {size : ℕ} {whole : List ℕ} (r : Report bytes blank size whole) where
   -- the buffer is at least as long as the report
@@ -20,19 +21,19 @@ module _ {bytes : List ℕ} {size : ℕ} {whole : List ℕ} (r : Report bytes bl
   pub part-long : length (take size whole) ≡ size
   part-long = length-take-le size whole held
 
-  pub too-short : {before : List ℕ} → length before < size → ReportCall bytes before size before
+  pub too-short : {before : List ℕ} → length before < size → ReportForC bytes before size before
   too-short {before} l = record { whole = whole; kept = r; written = rw (lt-ltb _ _ l) }
 
   -- the copy gives the length of what it copied, and copies all of it
   pub long-enough : {before after : List ℕ} {n : ℕ} → size ≤ length before → n ≡ length (take size whole) →
-      after ≡ take (length (take size whole)) (take size whole) ++ drop (length (take size whole)) before → ReportCall bytes before n after
+      after ≡ take (length (take size whole)) (take size whole) ++ drop (length (take size whole)) before → ReportForC bytes before n after
   long-enough {before} {after} l p e =
       let written : after ≡ copied (ltb (length before) size) size whole before =
       e ∙ rw (take-length (take size whole), part-long, le-ltb (length before) size l) in
       rw (p, part-long) (record { whole = whole; kept = r; written = written })
 
 -- what the promise says of the buffer: the report itself stands at its front, or nothing changed
-module _ {bytes before after : List ℕ} {size : ℕ} (c : ReportCall bytes before size after) where
+module _ {bytes before after : List ℕ} {size : ℕ} (c : ReportForC bytes before size after) where
   pub report-stands : size ≤ length before → after ≡ reportOf bytes (c .kept .answer) (c .kept .numbers) (c .kept .arcs) ++ drop size before
   report-stands l =
       let text = reportOf bytes (c .kept .answer) (c .kept .numbers) (c .kept .arcs) in
@@ -43,5 +44,5 @@ module _ {bytes before after : List ℕ} {size : ℕ} (c : ReportCall bytes befo
   report-kept-back l = c .written ∙ rw (lt-ltb (length before) size l)
 
   -- a buffer of this length is long enough for every image
-  pub report-call-fits : size ≤ 48146
+  pub report-call-fits : size ≤ LONGEST
   report-call-fits = report-fits bytes (c .kept)

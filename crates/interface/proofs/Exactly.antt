@@ -17,13 +17,13 @@ use Rattle.flow.proofs.Walks.{fits-calm}
 use Rattle.circuit.specs.Circuit.{circuitOf}
 use Rattle.circuit.specs.Clock.{flow}
 use Rattle.circuit.proofs.Sound.{sound, good}
-use Rattle.timing.specs.Promise.{Served, Timing, refused, few-numbers, few-arcs, growing, timed}
-use Rattle.timing.specs.declared.call.Answer.{Answer}
+use Rattle.timing.specs.TimingPromise.{Served, Timing, refused, few-numbers, few-arcs, growing, timed}
+use Rattle.timing.specs.declared.timing_call.Answer.{Answer}
 use Rattle.report.proofs.Refusals.{refused-small}
 use Rattle.interface.specs.Answers.{checkAnswer, timingAnswer}
-use Rattle.interface.specs.Promise.{CheckCall, TimingCall}
-use Rattle.interface.specs.declared.checked.CheckAnswer.{CheckAnswer}
-use Rattle.interface.specs.declared.timed.TimingAnswer.{TimingAnswer}
+use Rattle.interface.specs.Promise.{CheckForC, TimingForC}
+use Rattle.interface.specs.declared.check_answer.CheckAnswer.{CheckAnswer}
+use Rattle.interface.specs.declared.timing_answer.TimingAnswer.{TimingAnswer}
 use Rattle.interface.proofs.Reading.{shown-some}
 
 module _ (bytes : List ℕ) where
@@ -37,7 +37,7 @@ module _ (bytes : List ℕ) where
   accepted (check.Good image) e = (λ z. accepts bytes .1 (rw (accepted-is bytes image (sym e)) at (sym e)), λ v. refl)
 
   -- check: 0 for a valid image and for no other
-  pub accepted-exactly : {given : CheckAnswer} → CheckCall bytes given → (given .refusal ≡ 0) ↔ Valid bytes
+  pub accepted-exactly : {given : CheckAnswer} → CheckForC bytes given → (given .refusal ≡ 0) ↔ Valid bytes
   accepted-exactly c = rw (c .told) (accepted (c .answer) (c .kept))
 
   module _ {numbers : List ℤ} {arcs : List ℕ} where
@@ -51,7 +51,7 @@ module _ (bytes : List ℕ) where
     served (timed E D s t) = (λ z. s, λ k. refl)
 
     -- timing: 0 where the image is good and both buffers are long enough, and nowhere else
-    pub served-exactly : {given : TimingAnswer} {R : List ℤ} {A : List ℕ} → TimingCall bytes numbers arcs given R A →
+    pub served-exactly : {given : TimingAnswer} {R : List ℤ} {A : List ℕ} → TimingForC bytes numbers arcs given R A →
         (given .refusal ≡ 0) ↔ Served bytes numbers arcs
     served-exactly c = rw (c .told) (served (c .kept))
 
@@ -67,6 +67,6 @@ module _ (bytes : List ℕ) where
         (λ z. let k : ⊥ = omega arith in absurd k, λ g. absurd (fits-calm (flow late c) whole D (t .late .fits) (g .1)))
 
     -- timing: arcs of a loop where a ring grows, and nowhere else
-    pub loop-exactly : {given : TimingAnswer} {R : List ℤ} {A : List ℕ} → TimingCall bytes numbers arcs given R A →
+    pub loop-exactly : {given : TimingAnswer} {R : List ℤ} {A : List ℕ} → TimingForC bytes numbers arcs given R A →
         (0 < given .«loop_arcs») ↔ (Served bytes numbers arcs × GrowingRing (flow late (circuitOf bytes)))
     loop-exactly c = rw (c .told) (looped (c .kept))

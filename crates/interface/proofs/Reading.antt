@@ -8,25 +8,25 @@ use native.Mathlib.Omega.{arith}
 use lib.Dec.{ltb}
 use lib.IntN.{ℤ}
 use borrow.Author.Tests.{lt-ltb}
-use Rattle.image.specs.Kind.{offsetOf}
+use Rattle.image.specs.Header.{offsetOf}
 use Rattle.image.specs.Checks.{checkOf}
 use Rattle.image.specs.declared.checks.Checked.{Checked}
 use Rattle.image.specs.declared.checks.Checked.the-variants as check
-use Rattle.image.specs.declared.kind.Part.the-variants.{Phases, Synchronizers, Arcs}
+use Rattle.image.specs.declared.header.Part.the-variants.{Phases, Synchronizers, Arcs}
 use Rattle.image.proofs.Validity.{accepts, accepted-is}
 use Rattle.flow.specs.Walk.{Shown}
-use Rattle.timing.specs.Promise.{Timing, refused, few-numbers, few-arcs, growing, timed}
-use Rattle.timing.specs.Paths as asked
-use Rattle.timing.specs.declared.call.Answer.{Answer}
-use Rattle.timing.specs.declared.call.Answer.the-variants as timing
-use Rattle.timing.specs.declared.ask.Way.{Way}
-use Rattle.timing.specs.declared.ask.Way.the-variants as path
+use Rattle.timing.specs.TimingPromise.{Timing, refused, few-numbers, few-arcs, growing, timed}
+use Rattle.timing.specs.PathPromise as asked
+use Rattle.timing.specs.declared.timing_call.Answer.{Answer}
+use Rattle.timing.specs.declared.timing_call.Answer.the-variants as timing
+use Rattle.timing.specs.declared.path_call.Way.{Way}
+use Rattle.timing.specs.declared.path_call.Way.the-variants as path
 use Rattle.report.proofs.Refusals.{refused-small}
 use Rattle.interface.specs.Answers.{checkAnswer, timingAnswer, pathAnswer}
-use Rattle.interface.specs.Promise.{CheckCall, TimingCall, PathCall}
-use Rattle.interface.specs.declared.checked.CheckAnswer.{CheckAnswer}
-use Rattle.interface.specs.declared.timed.TimingAnswer.{TimingAnswer}
-use Rattle.interface.specs.declared.found.PathAnswer.{PathAnswer}
+use Rattle.interface.specs.Promise.{CheckForC, TimingForC, PathForC}
+use Rattle.interface.specs.declared.check_answer.CheckAnswer.{CheckAnswer}
+use Rattle.interface.specs.declared.timing_answer.TimingAnswer.{TimingAnswer}
+use Rattle.interface.specs.declared.path_answer.PathAnswer.{PathAnswer}
 
 -- the first where the test holds
 abbrev either : {A : Type 0} → Bool → A → A → A
@@ -71,7 +71,7 @@ module _ (bytes : List ℕ) where
       let v = accepts bytes .1 (rw same at (sym e)) in
       rw (same, v .phase-table, v .synchronizer-table, v .arc-table)
 
-  pub check-read : {given : CheckAnswer} (c : CheckCall bytes given) → readCheck given ≡ c .answer
+  pub check-read : {given : CheckAnswer} (c : CheckForC bytes given) → readCheck given ≡ c .answer
   check-read c = rw (c .told) (check-back (c .answer) (c .kept))
 
   module _ {numbers : List ℤ} {arcs : List ℕ} where
@@ -82,7 +82,7 @@ module _ (bytes : List ℕ) where
     timing-back (growing {count} s ring) = rw (lt-ltb 0 count (shown-some ring))
     timing-back (timed E D s t) = refl
 
-    pub timing-read : {given : TimingAnswer} {R : List ℤ} {A : List ℕ} (c : TimingCall bytes numbers arcs given R A) → readTiming given ≡ c .answer
+    pub timing-read : {given : TimingAnswer} {R : List ℤ} {A : List ℕ} (c : TimingForC bytes numbers arcs given R A) → readTiming given ≡ c .answer
     timing-read c = rw (c .told) (timing-back (c .kept))
 
   module _ {i : ℕ} {arcs : List ℕ} where
@@ -94,17 +94,17 @@ module _ (bytes : List ℕ) where
     path-back (asked.growing a q l e ring) = refl
     path-back (asked.found D s p q least way) = refl
 
-    pub path-read : {given : PathAnswer} {A : List ℕ} (c : PathCall bytes i arcs given A) → readPath given ≡ c .answer
+    pub path-read : {given : PathAnswer} {A : List ℕ} (c : PathForC bytes i arcs given A) → readPath given ≡ c .answer
     path-read c = rw (c .told) (path-back (c .kept))
 
 -- so equal structs come from equal answers, whatever the images and buffers were
-pub check-same : (a b : List ℕ) {given : CheckAnswer} (c : CheckCall a given) (d : CheckCall b given) → c .answer ≡ d .answer
+pub check-same : (a b : List ℕ) {given : CheckAnswer} (c : CheckForC a given) (d : CheckForC b given) → c .answer ≡ d .answer
 check-same a b c d = sym (check-read a c) ∙ check-read b d
 
-pub timing-same : (a b : List ℕ) {given : TimingAnswer} {M N P Q : List ℤ} {A B C D : List ℕ} (c : TimingCall a M A given P C)
-    (d : TimingCall b N B given Q D) → c .answer ≡ d .answer
+pub timing-same : (a b : List ℕ) {given : TimingAnswer} {M N P Q : List ℤ} {A B C D : List ℕ} (c : TimingForC a M A given P C)
+    (d : TimingForC b N B given Q D) → c .answer ≡ d .answer
 timing-same a b c d = sym (timing-read a c) ∙ timing-read b d
 
-pub path-same : (a b : List ℕ) {given : PathAnswer} {i j : ℕ} {A B C D : List ℕ} (c : PathCall a i A given C) (d : PathCall b j B given D) →
+pub path-same : (a b : List ℕ) {given : PathAnswer} {i j : ℕ} {A B C D : List ℕ} (c : PathForC a i A given C) (d : PathForC b j B given D) →
     c .answer ≡ d .answer
 path-same a b c d = sym (path-read a c) ∙ path-read b d

@@ -1,14 +1,14 @@
--- The struct that each case of a Rattle answer becomes: document 01's number and values, and 0 in a field that does not apply.
+-- The struct that each case of a Rattle answer becomes: the numbers of docs/RULES.md and the answer's values, and 0 in a field that does not apply.
 use lib.IntN.{pos}
 use Rattle.image.specs.declared.checks.Checked.{Checked}
 use Rattle.image.specs.declared.checks.Checked.the-variants as check
-use Rattle.timing.specs.declared.call.Answer.{Answer}
-use Rattle.timing.specs.declared.call.Answer.the-variants as timing
-use Rattle.timing.specs.declared.ask.Way.{Way}
-use Rattle.timing.specs.declared.ask.Way.the-variants as path
-use Rattle.interface.specs.declared.checked.CheckAnswer.{CheckAnswer}
-use Rattle.interface.specs.declared.timed.TimingAnswer.{TimingAnswer}
-use Rattle.interface.specs.declared.found.PathAnswer.{PathAnswer}
+use Rattle.timing.specs.declared.timing_call.Answer.{Answer}
+use Rattle.timing.specs.declared.timing_call.Answer.the-variants as timing
+use Rattle.timing.specs.declared.path_call.Way.{Way}
+use Rattle.timing.specs.declared.path_call.Way.the-variants as path
+use Rattle.interface.specs.declared.check_answer.CheckAnswer.{CheckAnswer}
+use Rattle.interface.specs.declared.timing_answer.TimingAnswer.{TimingAnswer}
+use Rattle.interface.specs.declared.path_answer.PathAnswer.{PathAnswer}
 
 abbrev pub checkAnswer : Checked → CheckAnswer
 checkAnswer (check.Good image) = record {

@@ -9,34 +9,35 @@ use lib.IntN.{ℤ}
 use lib.ListN.{length, take, drop, replicate}
 use Rattle.image.specs.Checks.{checkOf}
 use Rattle.image.specs.declared.checks.Checked.{Checked}
-use Rattle.timing.specs.Promise.{Timing}
-use Rattle.timing.specs.Paths as asked
-use Rattle.timing.specs.declared.call.Answer.{Answer}
-use Rattle.timing.specs.declared.ask.Way.{Way}
+use Rattle.timing.specs.TimingPromise.{Timing}
+use Rattle.timing.specs.PathPromise as asked
+use Rattle.timing.specs.declared.timing_call.Answer.{Answer}
+use Rattle.timing.specs.declared.path_call.Way.{Way}
+use Rattle.report.specs.Limits.{LONGEST}
 use Rattle.report.specs.Promise.{Report}
 use Rattle.interface.specs.Answers.{checkAnswer, timingAnswer, pathAnswer}
-use Rattle.interface.specs.declared.checked.CheckAnswer.{CheckAnswer}
-use Rattle.interface.specs.declared.timed.TimingAnswer.{TimingAnswer}
-use Rattle.interface.specs.declared.found.PathAnswer.{PathAnswer}
+use Rattle.interface.specs.declared.check_answer.CheckAnswer.{CheckAnswer}
+use Rattle.interface.specs.declared.timing_answer.TimingAnswer.{TimingAnswer}
+use Rattle.interface.specs.declared.path_answer.PathAnswer.{PathAnswer}
 
-pub record CheckCall (bytes : List ℕ) (given : CheckAnswer) : Type 0 where
+pub record CheckForC (bytes : List ℕ) (given : CheckAnswer) : Type 0 where
   pub answer : Checked
   pub kept : answer ≡ checkOf bytes
   pub told : given ≡ checkAnswer answer
 
-pub record TimingCall (bytes : List ℕ) (numbers : List ℤ) (arcs : List ℕ) (given : TimingAnswer) (numbers₁ : List ℤ) (arcs₁ : List ℕ) : Type 0 where
+pub record TimingForC (bytes : List ℕ) (numbers : List ℤ) (arcs : List ℕ) (given : TimingAnswer) (numbers₁ : List ℤ) (arcs₁ : List ℕ) : Type 0 where
   pub answer : Answer
   pub kept : Timing bytes numbers arcs answer numbers₁ arcs₁
   pub told : given ≡ timingAnswer answer
 
-pub record PathCall (bytes : List ℕ) (i : ℕ) (arcs : List ℕ) (given : PathAnswer) (arcs₁ : List ℕ) : Type 0 where
+pub record PathForC (bytes : List ℕ) (i : ℕ) (arcs : List ℕ) (given : PathAnswer) (arcs₁ : List ℕ) : Type 0 where
   pub answer : Way
   pub kept : asked.PathCall bytes i arcs answer arcs₁
   pub told : given ≡ pathAnswer answer
 
 -- the buffer that the report is lent
 abbrev pub blank : List ℕ
-blank = replicate 48146 0
+blank = replicate LONGEST 0
 
 -- the first bytes of a text at the front of a buffer; a buffer that is too short for them, as the test says, stays
 abbrev pub copied : Bool → ℕ → List ℕ → List ℕ → List ℕ
@@ -44,7 +45,7 @@ copied true size text before = before
 copied false size text before = take size text ++ drop size before
 
 -- a buffer that is shorter than the report stays; otherwise the report stands at its front, and the rest stays
-pub record ReportCall (bytes before : List ℕ) (size : ℕ) (after : List ℕ) : Type 0 where
+pub record ReportForC (bytes before : List ℕ) (size : ℕ) (after : List ℕ) : Type 0 where
   pub whole : List ℕ
   pub kept : Report bytes blank size whole
   pub written : after ≡ copied (ltb (length before) size) size whole before

@@ -1,14 +1,14 @@
 // The C interface: the four questions of this library as functions that C can call, with answers that C can read. Each calls the Rattle
 // call of the same name and turns its answer, an enum, into a struct of numbers. None has a condition, and none keeps anything.
 mod calls;
-mod checked;
-mod found;
-mod timed;
+mod check_answer;
+mod path_answer;
+mod timing_answer;
 
 pub use calls::neelukudam_check;
 pub use calls::neelukudam_path;
 pub use calls::neelukudam_report;
 pub use calls::neelukudam_timing;
-pub use checked::CheckAnswer;
-pub use found::PathAnswer;
-pub use timed::TimingAnswer;
+pub use check_answer::CheckAnswer;
+pub use path_answer::PathAnswer;
+pub use timing_answer::TimingAnswer;

@@ -16,18 +16,18 @@ use Rattle.flow.proofs.Path.{path-walk}
 use Rattle.circuit.specs.Circuit.{circuitOf}
 use Rattle.circuit.specs.Clock.{flow}
 use Rattle.circuit.proofs.Sound.{sound}
-use Rattle.timing.specs.Promise as promise
-use Rattle.timing.specs.Promise.{Served, Timing}
-use Rattle.timing.specs.declared.call.Answer.{Answer}
-use Rattle.timing.specs.declared.call.Answer.the-variants as answer
-use Rattle.timing.specs.Paths as paths
-use Rattle.timing.proofs.Only.{timing-only}
+use Rattle.timing.specs.TimingPromise as promise
+use Rattle.timing.specs.TimingPromise.{Served, Timing}
+use Rattle.timing.specs.declared.timing_call.Answer.{Answer}
+use Rattle.timing.specs.declared.timing_call.Answer.the-variants as answer
+use Rattle.timing.specs.PathPromise as paths
+use Rattle.timing.proofs.OneTiming.{timing-only}
 use Rattle.timing.proofs.OnePath.{path-only}
 use Rattle.report.specs.Ascii.{ascii}
 use Rattle.report.specs.Promise.{zeros, noArcs, reportOf}
 use Rattle.known.specs.Circuits.{Outcome, timed, growing, path, Known, known}
-use Rattle.known.specs.Holds.{Timed, Grows, Comes, Holds, Every}
-use Rattle.known.specs.Answers.{Times, Prints, Gives, Answers}
+use Rattle.known.specs.Holds.{Timed, Grows, Comes, Holds, AllOf}
+use Rattle.known.specs.Answers.{TimingLeaves, Prints, CallsGive, Answers}
 use Rattle.known.proofs.Known.{known-holds}
 
 module _ (bytes : List ℕ) (accepted : checkOf bytes ≡ Good (imageIn bytes)) where
@@ -36,7 +36,7 @@ module _ (bytes : List ℕ) (accepted : checkOf bytes ≡ Good (imageIn bytes)) 
   served numbers arcs fit room = record { good = accepted; numbers-fit = fit; arcs-fit = room }
 
   times : (results : List ℤ) (setups holds : ℕ) (text : String) → Timed (circuitOf bytes) results setups holds text →
-      Times bytes (λ numbers arcs X R A.
+      TimingLeaves bytes (λ numbers arcs X R A.
       (X ≡ answer.Timed setups holds) × (R ≡ results ++ drop (6 * circuitOf bytes .synchronizers) numbers) × (A ≡ arcs))
   times results setups holds text h numbers arcs fit room X R A x =
       elim (timing-only bytes numbers arcs x (promise.timed (h .soonest) (h .latest) (served numbers arcs fit room) (h .times))) [
@@ -50,7 +50,7 @@ module _ (bytes : List ℕ) (accepted : checkOf bytes ≡ Good (imageIn bytes)) 
 
   -- the ring that is shown is the only one
   shows : (ring : List ℕ) (total : ℤ) (text : String) → Grows (circuitOf bytes) ring total text →
-      Times bytes (λ numbers arcs X R A. (X ≡ answer.Growing (length ring) total) × (R ≡ numbers) × (A ≡ ring ++ drop (length ring) arcs))
+      TimingLeaves bytes (λ numbers arcs X R A. (X ≡ answer.Growing (length ring) total) × (R ≡ numbers) × (A ≡ ring ++ drop (length ring) arcs))
   shows ring total text h numbers arcs fit room X R A x = go x
     where
       go : {X : Answer} {R : List ℤ} {A : List ℕ} → Timing bytes numbers arcs X R A →
@@ -77,7 +77,7 @@ module _ (bytes : List ℕ) (accepted : checkOf bytes ≡ Good (imageIn bytes)) 
       let few = sound bytes (accepts bytes .1 accepted) .synchronizers in
       (rw (length-replicate {A = ℤ} 3072 (pos 0)) (omega (arith, few)), rw (length-replicate {A = ℕ} 512 0) (omega (arith, few)))
 
-  gives : (o : Outcome) → Comes (circuitOf bytes) o → Gives bytes o
+  gives : (o : Outcome) → Comes (circuitOf bytes) o → CallsGive bytes o
   gives (timed results setups holds text) h = (
     times results setups holds text h,
     prints _ _ _ text (λ Y S B y. times results setups holds text h zeros noArcs (room .0) (room .1) Y S B y) (h .prints),
@@ -91,9 +91,9 @@ module _ (bytes : List ℕ) (accepted : checkOf bytes ≡ Good (imageIn bytes)) 
       let l = rw (w .2) at (sound bytes (accepts bytes .1 accepted) .to (h .leads .last) (w .1)) in
       path-only bytes i arcs x (paths.found (h .latest) s p (record { good = accepted; arcs-fit = fits; inside = l }) (h .least) (h .leads))
 
-every : (ks : List Known) → Every Holds ks → Every Answers ks
+every : (ks : List Known) → AllOf Holds ks → AllOf Answers ks
 every [] h = tt
 every (k ∷ ks) h = (gives (k .bytes) (h .0 .accepted) (k .outcome) (h .0 .comes), every ks (h .1))
 
-pub known-answers : Every Answers known
+pub known-answers : AllOf Answers known
 known-answers = every known known-holds

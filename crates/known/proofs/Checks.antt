@@ -11,7 +11,7 @@ use lib.IntN.{ℤ, pos, negsuc}
 use lib.Signed.{_<ℤ_, ltZ, ltZ-yes}
 use Rattle.ticks.proofs.Ints.{ints}
 use Rattle.flow.specs.Walk.{Every, Distinct}
-use Rattle.flow.proofs.Below.{below-suc}
+use Rattle.flow.proofs.Pigeonhole.{below-suc}
 
 pub record Check (P : Type 0) : Type 0 where
   pub test : Bool

@@ -1,12 +1,13 @@
 -- All that has to unfold so that an image of the list computes, from its bytes to its results: a declaration that computes says
 -- `unfolding computes`.
 use Rattle.image.specs.Words.{wordAt}
-use Rattle.image.specs.Kind.{headerOf}
+use Rattle.image.specs.Header.{headerOf}
 use Rattle.image.specs.Records.{phaseAt, synchronizerAt, arcAt}
 use Rattle.image.specs.Rules.{badPhase, badSynchronizer, badArc, badOrder, lowestOf}
 use Rattle.image.specs.Checks.{recordsOf, checkOf}
 use Rattle.ticks.specs.Extremes.{maxℤ, minℤ}
-use Rattle.flow.specs.Flow.{into, arrival, next, round}
+use Rattle.flow.specs.Flow.{into, arrival, next}
+use Rattle.flow.specs.inside.Rounds.{round}
 use Rattle.circuit.specs.Circuit.{circuitOf}
 use Rattle.circuit.specs.Clock.{shift, isLatch, opening, launch, delay, weight}
 use Rattle.circuit.specs.Times.{setupSlack, holdSlack, count, six, results}

@@ -1,4 +1,4 @@
--- The mistakes that document 01 wants kept out, each at a circuit of the list where it gives another answer, or none. All of it is
+-- The mistakes to keep out, each at a circuit of the list where it gives another answer, or none. All of it is
 -- computed, except that P5's swinging has no end: that is an induction, as equal departures have equal next rounds.
 use mathlib.Core.Path.{_≡_, refl, sym, _∙_}
 use mathlib.Core.Bool.{Bool, true, false, not}
@@ -10,8 +10,9 @@ use lib.Dec.{lit<}
 use lib.IntN.{ℤ, pos, _-ℤ_}
 use Rattle.ticks.specs.Extremes.{minℤ}
 use Rattle.ticks.proofs.Ints.{ints}
-use Rattle.flow.specs.Flow.{Flow, Good, late, early, at, arrival, next, round, Fits, Settled}
-use Rattle.flow.specs.Bounds.{Agree}
+use Rattle.flow.specs.Flow.{Flow, Good, late, early, at, arrival, next, Fits}
+use Rattle.flow.specs.inside.Rounds.{round, Settled}
+use Rattle.flow.specs.inside.Within.{Agree}
 use Rattle.flow.specs.Walk.{Walk, gain, GrowingRing}
 use Rattle.flow.proofs.Agree.{next-agree}
 use Rattle.flow.proofs.Walks.{fits-calm}

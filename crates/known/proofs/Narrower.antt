@@ -4,7 +4,8 @@ use mathlib.Core.Path.{refl}
 use Prim.Native.Nat.{ℕ}
 use lib.Dec.{lit<}
 use lib.IntN.{ℤ}
-use Rattle.flow.specs.Flow.{Side, late, early, round, Least}
+use Rattle.flow.specs.Flow.{Side, late, early, Least}
+use Rattle.flow.specs.inside.Rounds.{round}
 use Rattle.flow.proofs.Rounds.{settled-least}
 use Rattle.image.specs.Valid.{Valid}
 use Rattle.circuit.specs.Circuit.{Circuit, circuitOf}
@@ -12,7 +13,7 @@ use Rattle.circuit.specs.Clock.{flow}
 use Rattle.circuit.specs.Times.{Times, Calm, arrives, setupSlack, Met}
 use Rattle.circuit.specs.Narrows.{Stays, Narrows, Narrowed}
 use Rattle.circuit.proofs.Sound.{sound, good}
-use Rattle.circuit.proofs.Says.{met-exactly}
+use Rattle.circuit.proofs.RulesInWords.{met-exactly}
 use Rattle.circuit.proofs.Narrowing.{narrowing}
 use Rattle.known.specs.Circuits.{p1, p2, p5, p7, p8}
 use Rattle.known.proofs.Checks.{Check, given, _and_, less, atMost, equal, below}

@@ -10,11 +10,12 @@ use lib.IntN.{ℤ, pos}
 use lib.ListN.{length, drop}
 use Rattle.image.specs.Checks.{checkOf}
 use Rattle.image.specs.Valid.{Valid}
-use Rattle.image.specs.declared.kind.Image.{Image}
+use Rattle.image.specs.declared.header.Image.{Image}
 use Rattle.image.specs.declared.checks.Checked.{Checked}
 use Rattle.image.specs.declared.checks.Checked.the-variants.{Good, Refused}
 use Rattle.image.proofs.Validity.{passed, valid, accepts}
-use Rattle.flow.specs.Flow.{Flow, Side, late, early, round, Settled}
+use Rattle.flow.specs.Flow.{Flow, Side, late, early}
+use Rattle.flow.specs.inside.Rounds.{round, Settled}
 use Rattle.flow.specs.Walk.{Walk, gain, sources, GrowingRing}
 use Rattle.flow.proofs.Rounds.{settled-least}
 use Rattle.flow.proofs.Walks.{fits-calm}
@@ -22,12 +23,12 @@ use Rattle.circuit.specs.Circuit.{Circuit, circuitOf}
 use Rattle.circuit.specs.Clock.{flow}
 use Rattle.circuit.proofs.Sound.{Sound, sound, good}
 use Rattle.circuit.specs.Times.{results, missedSetups, missedHolds}
-use Rattle.timing.specs.declared.call.Answer.the-variants as answer
+use Rattle.timing.specs.declared.timing_call.Answer.the-variants as answer
 use Rattle.report.specs.Ascii.{ascii}
 use Rattle.report.specs.Text.{textOf}
 use Rattle.report.specs.Promise.{zeros, noArcs}
 use Rattle.known.specs.Circuits.{Outcome, timed, growing, path, Known}
-use Rattle.known.specs.Holds.{Timed, Grows, Led, Comes, Holds, Every}
+use Rattle.known.specs.Holds.{Timed, Grows, CameOver, Comes, Holds, AllOf}
 use Rattle.known.proofs.Traces.{tracing}
 use Rattle.known.proofs.Rings.{lonely}
 use Rattle.known.proofs.Checks.{Check, given, always, never, _and_, less, atMost, equal, lessℤ, equalℤ, isTrue, equals, every, distinct, below}
@@ -107,7 +108,7 @@ growth c (a ∷ p) total text =
     and equals equal (textOf (c .synchronizers) (answer.Growing (length (a ∷ p)) total) zeros ((a ∷ p) ++ drop (length (a ∷ p)) noArcs)) (ascii text))
 
 -- the path, by the departures that the rounds settle at
-abbrev leading : (c : Circuit) (i s : ℕ) (arcs : List ℕ) → Check (Sound c → Led c i s arcs)
+abbrev leading : (c : Circuit) (i s : ℕ) (arcs : List ℕ) → Check (Sound c → CameOver c i s arcs)
 leading c i s arcs =
     let n = pred (c .synchronizers) in
     given
@@ -127,6 +128,6 @@ holding k =
     given (λ h. record { accepted = accepts (k .bytes) .0 (h .0); comes = h .1 (sound (k .bytes) (h .0)) })
     (acceptance (k .bytes) and coming (circuitOf (k .bytes)) (k .outcome))
 
-abbrev pub holdings : (ks : List Known) → Check (Every Holds ks)
+abbrev pub holdings : (ks : List Known) → Check (AllOf Holds ks)
 holdings [] = always
 holdings (k ∷ ks) = holding k and holdings ks

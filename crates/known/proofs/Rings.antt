@@ -20,14 +20,14 @@ under s [] = never
 under s (y ∷ ys) = given (λ l h. let k = h .0 in omega arith) (less y s) or given (λ k h. k (h .1)) (under s ys)
 
 -- none of the nodes seen comes again
-abbrev pub Fresh : List ℕ → List ℕ → Type 0
-Fresh seen ys = Every (λ y. Every (λ x. x ≢ y) seen) ys
+abbrev pub Unvisited : List ℕ → List ℕ → Type 0
+Unvisited seen ys = Every (λ y. Every (λ x. x ≢ y) seen) ys
 
 module _ (f : Flow) (j : ℕ) where
   abbrev pub Follows : ℕ → List ℕ → (List ℕ → Type 0) → Type 0
-  Follows i seen Q = (p : List ℕ) → Walk f i p j → Distinct (sources f p) → Fresh seen (sources f p) → Q p
+  Follows i seen Q = (p : List ℕ) → Walk f i p j → Distinct (sources f p) → Unvisited seen (sources f p) → Q p
 
-  fresh-on : (i : ℕ) (seen ys : List ℕ) → Every (λ y. i ≢ y) ys → Fresh seen ys → Fresh (i ∷ seen) ys
+  fresh-on : (i : ℕ) (seen ys : List ℕ) → Every (λ y. i ≢ y) ys → Unvisited seen ys → Unvisited (i ∷ seen) ys
   fresh-on i seen [] h k = tt
   fresh-on i seen (y ∷ ys) h k = ((h .0, k .0), fresh-on i seen ys (h .1) (k .1))
 
@@ -57,7 +57,7 @@ abbrev pub showing : (f : Flow) (arcs : List ℕ) (s : ℕ) (p : List ℕ) → C
 showing f arcs s [] = given (λ u l. let z : ⊥ = omega arith in absurd z) always
 showing f arcs s (a ∷ p) = given (λ k l h. absurd (k h)) (under s (sources f (a ∷ p))) or given (λ e l h. e) (equals equal (a ∷ p) arcs)
 
-pub fresh-none : (ys : List ℕ) → Fresh [] ys
+pub fresh-none : (ys : List ℕ) → Unvisited [] ys
 fresh-none [] = tt
 fresh-none (y ∷ ys) = (tt, fresh-none ys)
 

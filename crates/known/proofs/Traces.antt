@@ -7,7 +7,8 @@ use native.Mathlib.Omega.{arith}
 use lib.IntN.{ℤ}
 use lib.ListN.{length, getD, take}
 use Rattle.image.specs.Rules.{lowestOf}
-use Rattle.flow.specs.Flow.{Flow, Good, late, When, none, at, brings, arrival, round, Fits}
+use Rattle.flow.specs.Flow.{Flow, Good, late, When, none, at, brings, arrival, Fits}
+use Rattle.flow.specs.inside.Rounds.{round}
 use Rattle.flow.specs.Rank.{Lowest, Rank}
 use Rattle.flow.specs.Path.{Brought, Last, Back, PathTo}
 use Rattle.flow.proofs.Rank.{rank-round, lowest-unique}

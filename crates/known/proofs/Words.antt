@@ -1,4 +1,4 @@
--- That images and the mark are what document 01 says: a word reads back as itself, P1 is these 32 words, and the mark in digits.
+-- That images and the mark are what docs/RULES.md says: a word reads back as itself, P1 is these 32 words, and the mark in digits.
 use mathlib.Core.Path.{_≡_, refl}
 use mathlib.Core.List.{List, [], _∷_, _++_}
 use Prim.Native.Nat.{ℕ, _/_, _<_, _^_}

@@ -1,4 +1,4 @@
--- The circuits with known numbers of document 01, as the bytes of their images, and what is known of each.
+-- The circuits with known numbers (circuits/README.md), as the bytes of their images, and what is known of each.
 use mathlib.Core.List.{List, [], _∷_}
 use Prim.Native.Nat.{ℕ}
 use Prim.Native.String.{String}

@@ -15,7 +15,7 @@ use Rattle.flow.specs.Path.{PathTo}
 use Rattle.circuit.specs.Circuit.{Circuit, circuitOf}
 use Rattle.circuit.specs.Clock.{flow}
 use Rattle.circuit.specs.Times.{Times, Growing, results, missedSetups, missedHolds}
-use Rattle.timing.specs.declared.call.Answer.the-variants as answer
+use Rattle.timing.specs.declared.timing_call.Answer.the-variants as answer
 use Rattle.report.specs.Ascii.{ascii}
 use Rattle.report.specs.Text.{textOf}
 use Rattle.report.specs.Promise.{zeros, noArcs}
@@ -43,7 +43,7 @@ pub record Grows (c : Circuit) (arcs : List ℕ) (total : ℤ) (text : String) :
   pub prints : textOf (c .synchronizers) (answer.Growing (length arcs) total) zeros (arcs ++ drop (length arcs) noArcs) ≡ ascii text
 
 -- by the least late departures, the path to i is launched at s and has these arcs
-pub record Led (c : Circuit) (i s : ℕ) (arcs : List ℕ) : Type 0 where
+pub record CameOver (c : Circuit) (i s : ℕ) (arcs : List ℕ) : Type 0 where
   pub latest : ℕ → ℤ
   pub least : Least late (flow late c) latest
   pub leads : PathTo (flow late c) latest i s arcs
@@ -51,13 +51,13 @@ pub record Led (c : Circuit) (i s : ℕ) (arcs : List ℕ) : Type 0 where
 abbrev pub Comes : Circuit → Outcome → Type 0
 Comes c (timed numbers setups holds text) = Timed c numbers setups holds text
 Comes c (growing arcs total text) = Grows c arcs total text
-Comes c (path i s arcs) = Led c i s arcs
+Comes c (path i s arcs) = CameOver c i s arcs
 
 -- the image is accepted, and its circuit comes out as known
 pub record Holds (k : Known) : Type 0 where
   pub accepted : checkOf (k .bytes) ≡ Good (imageIn (k .bytes))
   pub comes : Comes (circuitOf (k .bytes)) (k .outcome)
 
-abbrev pub Every : (Known → Type 0) → List Known → Type 0
-Every P [] = Unit {0}
-Every P (k ∷ ks) = P k × Every P ks
+abbrev pub AllOf : (Known → Type 0) → List Known → Type 0
+AllOf P [] = Unit {0}
+AllOf P (k ∷ ks) = P k × AllOf P ks

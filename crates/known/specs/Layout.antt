@@ -1,4 +1,4 @@
--- How to write an image: records as lists of words, laid out as document 01 says, little-endian.
+-- How to write an image: records as lists of words, laid out as docs/RULES.md says, little-endian.
 use mathlib.Core.List.{List, [], _∷_, _++_}
 use Prim.Native.Nat.{ℕ, _+_, _*_, _/_, _%_}
 use lib.ListN.{length}

@@ -1,2 +1,2 @@
-// The circuits of document 01 with known numbers, each given as the bytes of its image: one list under one theorem. And the
-// mistakes that document 01 wants kept out, each shown by example. Definitions and laws only: specs/ and proofs/ hold all of it.
+// The circuits with known numbers (circuits/README.md), each given as the bytes of its image: one list under one theorem. And the
+// mistakes that are easy to make, each shown by example. Definitions and laws only: specs/ and proofs/ hold all of it.

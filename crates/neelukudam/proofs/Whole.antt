@@ -10,14 +10,14 @@ use lib.IntN.{ℤ}
 use lib.ListN.{length, take, drop, length-append}
 use lib.Seq.{length-take-le, take-all}
 use borrow.Author.Tests.{leb-true, leb-false}
-use Rattle.image.specs.Kind.{mostBytes}
+use Rattle.image.specs.Header.{mostBytes}
 use Rattle.image.specs.Checks.{checkOf}
 use Rattle.image.specs.Valid.{imageIn}
 use Rattle.image.specs.declared.checks.Checked.the-variants.{Good}
 use Rattle.image.proofs.Enough.{valid-short, enough}
 use Rattle.image.proofs.Validity.{accepts}
-use Rattle.timing.specs.Promise.{Timing, refused, few-numbers, few-arcs, growing, timed}
-use Rattle.timing.specs.declared.call.Answer.{Answer}
+use Rattle.timing.specs.TimingPromise.{Timing, refused, few-numbers, few-arcs, growing, timed}
+use Rattle.timing.specs.declared.timing_call.Answer.{Answer}
 use Rattle.report.specs.Text.{textOf}
 use Rattle.report.specs.Promise.{zeros, noArcs, Report}
 use Rattle.neelukudam.specs.Promise.{Whole}

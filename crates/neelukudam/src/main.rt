@@ -2,7 +2,7 @@
 ghost use mathlib.Core.Path.{_≡_};
 ghost use Prim.Native.Nat.{_+_, _≤_};
 ghost use lib.ListN.{length};
-ghost use Rattle.image.specs.Kind.{mostBytes};
+ghost use Rattle.image.specs.Header.{mostBytes};
 ghost use Rattle.neelukudam.specs.Promise.{Whole};
 use image::Image;
 use libc::STDIN_FILENO;

@@ -9,8 +9,8 @@ use lib.IntN.{ℤ, pos, negsuc}
 use lib.ListN.{take, drop, getD}
 use Rattle.flow.specs.Walk.{Every}
 use Rattle.flow.proofs.Joined.{every-join}
-use Rattle.timing.specs.declared.call.Answer.{Answer}
-use Rattle.timing.specs.declared.call.Answer.the-variants.{Refused, Growing, Timed}
+use Rattle.timing.specs.declared.timing_call.Answer.{Answer}
+use Rattle.timing.specs.declared.timing_call.Answer.the-variants.{Refused, Growing, Timed}
 use Rattle.report.specs.Ascii.{ascii}
 use Rattle.report.specs.Decimal.{digit, digits, signed, result}
 use Rattle.report.specs.Text.{feed, spaced, line, each, arcLine, row, textOf}

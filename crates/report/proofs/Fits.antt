@@ -1,11 +1,12 @@
--- Every report fits into its buffer. A refusal has two small numbers; a growing loop shows at most 512 arcs; of a timed circuit no
--- number but the mark is 2^41 or more in size, so its line has at most 94 bytes.
+-- Every report fits into its buffer. A refusal has two small numbers; a growing loop shows no more arcs than synchronizers; of a timed circuit no
+-- number but the mark is 2^41 or more in size, so its line has at most `ROW` bytes.
 use mathlib.Core.Path.{_≡_}
 use mathlib.Core.List.{List, [], _∷_, _++_}
 use Prim.Native.Nat.{ℕ, _*_, _≤_}
 use native.Mathlib.Omega.{arith}
 use lib.IntN.{ℤ}
 use lib.ListN.{length, drop, length-append}
+use Rattle.image.specs.Header.{mostSynchronizers}
 use Rattle.image.specs.Checks.{checkOf}
 use Rattle.image.specs.declared.checks.Checked.the-variants as check
 use Rattle.image.proofs.Validity.{accepts}
@@ -14,10 +15,11 @@ use Rattle.circuit.specs.Circuit.{circuitOf}
 use Rattle.circuit.specs.Times.{missed, setupSlack, holdSlack, arrives, missedSetups, missedHolds, results}
 use Rattle.circuit.proofs.Sound.{Sound, sound}
 use Rattle.circuit.proofs.Sizes.{AllSmall, results-small}
-use Rattle.timing.specs.Promise.{Timing, refused, few-numbers, few-arcs, growing, timed, Served}
-use Rattle.timing.specs.declared.call.Answer.{Answer}
-use Rattle.timing.specs.declared.call.Answer.the-variants.{Refused}
+use Rattle.timing.specs.TimingPromise.{Timing, refused, few-numbers, few-arcs, growing, timed, Served}
+use Rattle.timing.specs.declared.timing_call.Answer.{Answer}
+use Rattle.timing.specs.declared.timing_call.Answer.the-variants.{Refused}
 use Rattle.timing.proofs.Writing as writing
+use Rattle.report.specs.Limits.{LENT-NUMBERS, ROW, LONGEST}
 use Rattle.report.specs.Ascii.{ascii}
 use Rattle.report.specs.Decimal.{digits, signed}
 use Rattle.report.specs.Text.{line, each, arcLine, row, textOf}
@@ -30,7 +32,7 @@ module _ (bytes : List ℕ) where
   pub served-sound : {numbers : List ℤ} {arcs : List ℕ} → Served bytes numbers arcs → Sound (circuitOf bytes)
   served-sound s = sound bytes (accepts bytes .1 (s .good))
 
-  pub text-fits : {X : Answer} {R : List ℤ} {A : List ℕ} → Timing bytes zeros noArcs X R A → length (reportOf bytes X R A) ≤ 48146
+  pub text-fits : {X : Answer} {R : List ℤ} {A : List ℕ} → Timing bytes zeros noArcs X R A → length (reportOf bytes X R A) ≤ LONGEST
   unfolding textOf
   text-fits (refused {rule} {culprit} e) =
       let h = refused-small rule culprit bytes e in
@@ -52,11 +54,11 @@ module _ (bytes : List ℕ) where
       let setups = missedSetups c D in
       let holds = missedHolds c E in
       let small : AllSmall R =
-      small-append (results c E D l) (drop (6 * l) zeros) (results-small c v E D t l (omega arith)) (small-drop (6 * l) zeros (small-zeros 3072)) in
-      let few : l ≤ 512 = v .synchronizers in
+      small-append (results c E D l) (drop (6 * l) zeros) (results-small c v E D t l (omega arith)) (small-drop (6 * l) zeros (small-zeros LENT-NUMBERS)) in
+      let few : l ≤ mostSynchronizers = v .synchronizers in
       let head = timed-few l setups holds (omega arith) (omega (arith, writing.count-few (λ i. missed (setupSlack c i) (arrives late c D i)) l))
       (omega (arith, writing.count-few (λ i. missed (holdSlack c i) (arrives early c E i)) l)) in
-      let rest = each-few (row R) 94 l (λ i k. row-few R i small (omega arith)) in
+      let rest = each-few (row R) ROW l (λ i k. row-few R i small (omega arith)) in
       rw (length-append (line (ascii "timed") (digits l ∷ digits setups ∷ digits holds ∷ [])) (each (row R) l)) (omega (arith, head, rest, few))
 
   -- timing's buffers are long enough: a refusal is one of the image
@@ -67,5 +69,5 @@ module _ (bytes : List ℕ) where
   refused-by-image (few-arcs ok l h) = let v = sound bytes (accepts bytes .1 ok) in let z : ⊥ = omega (arith, v .synchronizers) in absurd z
 
   -- what the promise gives is never longer than the buffer
-  pub report-fits : {before after : List ℕ} {size : ℕ} → Report bytes before size after → size ≤ 48146
+  pub report-fits : {before after : List ℕ} {size : ℕ} → Report bytes before size after → size ≤ LONGEST
   report-fits r = rw (r .sized) (text-fits (r .told))

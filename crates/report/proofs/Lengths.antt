@@ -10,6 +10,7 @@ use lib.Dec.{eqb}
 use lib.IntN.{ℤ, pos, negsuc, natAbs}
 use lib.ListN.{length, take, drop, getD, replicate, length-append, length-take}
 use Rattle.circuit.proofs.Sizes.{Small, AllSmall}
+use Rattle.report.specs.Limits.{FIRST-LINE, ROW}
 use Rattle.report.specs.Ascii.{ascii}
 use Rattle.report.specs.Decimal.{dash, digits, signed, result}
 use Rattle.report.specs.Text.{space, feed, spaced, line, each, arcLine, row}
@@ -59,7 +60,7 @@ line-long : (first : List ℕ) (fields : List (List ℕ)) → length (line first
 line-long first fields = rw (length-append first (spaced fields ++ (feed ∷ [])), length-append (spaced fields) (feed ∷ [])) (omega arith)
 
 -- the line of a synchronizer
-pub row-few : (numbers : List ℤ) (i : ℕ) → AllSmall numbers → i < 1000 → length (row numbers i) ≤ 94
+pub row-few : (numbers : List ℤ) (i : ℕ) → AllSmall numbers → i < 1000 → length (row numbers i) ≤ ROW
 row-few numbers i h l =
     let six = take 6 (drop (6 * i) numbers) in
     let few = fields-few six (small-take 6 (drop (6 * i) numbers) (small-drop (6 * i) numbers h)) in
@@ -79,7 +80,7 @@ each-few text m (suc n) h =
     (omega (arith, h n (omega arith), each-few text m n (λ i l. h i (omega arith)), mul-suc m n))
 
 -- first lines
-pub refused-few : (rule culprit : ℕ) → rule < 10000 → culprit < 10000 → length (line (ascii "refused") (digits rule ∷ digits culprit ∷ [])) ≤ 18
+pub refused-few : (rule culprit : ℕ) → rule < 10000 → culprit < 10000 → length (line (ascii "refused") (digits rule ∷ digits culprit ∷ [])) ≤ FIRST-LINE
 refused-few rule culprit h k =
     rw (line-long (ascii "refused") (digits rule ∷ digits culprit ∷ []), append-nil (digits culprit), length-append (digits rule) (space ∷ digits culprit))
     (omega (arith, digits-few 3 rule h, digits-few 3 culprit k))
@@ -90,7 +91,7 @@ loop-few count gain h k =
     (omega (arith, digits-few 2 count h, signed-few gain k))
 
 pub timed-few : (l setups holds : ℕ) → l < 1000 → setups < 1000 → holds < 1000 →
-    length (line (ascii "timed") (digits l ∷ digits setups ∷ digits holds ∷ [])) ≤ 18
+    length (line (ascii "timed") (digits l ∷ digits setups ∷ digits holds ∷ [])) ≤ FIRST-LINE
 timed-few l setups holds h k m =
     rw (
       line-long (ascii "timed") (digits l ∷ digits setups ∷ digits holds ∷ []),

@@ -4,17 +4,16 @@ pub mod Digits
 pub mod Signs
 pub mod Writes
 pub mod Rows
-pub mod Heads
 -- how long a report can be
 pub mod Lengths
 pub mod Refusals
 pub mod Rings
 pub mod Fits
 -- the call, and what its promise leaves open
-pub mod Telling
-pub mod Only
+pub mod FromTiming
+pub mod OneOutcome
 -- what the text says
 pub mod Printed
 pub mod Determined
 pub mod Decoded
-pub mod Tells
+pub mod LinesTell

@@ -5,7 +5,7 @@ use Prim.Native.Nat.{ℕ, _^_, _<_}
 use native.Mathlib.Omega.{arith}
 use lib.IntN.{pos, negsuc}
 use Rattle.circuit.specs.Times.{mark}
-use Rattle.timing.specs.declared.call.Answer.the-variants.{Refused, Growing, Timed}
+use Rattle.timing.specs.declared.timing_call.Answer.the-variants.{Refused, Growing, Timed}
 use Rattle.report.specs.Ascii.{ascii}
 use Rattle.report.specs.Decimal.{digitsUpTo, digits, signed, result}
 use Rattle.report.specs.Text.{each, textOf}
@@ -48,7 +48,7 @@ pub refusal : textOf 0 (Refused 7 12) [] [] ≡ ascii "refused 7 12\n"
 unfolding digits digitsUpTo textOf
 refusal = refl
 
--- P1, as document 01 prints it
+-- P1's report (circuits/p1.report)
 pub first : textOf 2 (Timed 0 0) (
     pos 60 ∷ pos 60 ∷ pos 25 ∷ pos 60 ∷ pos 20 ∷ pos 30 ∷ pos 60 ∷ pos 80 ∷ pos 35 ∷ pos 80 ∷ pos 30 ∷ pos 10 ∷ []
     ) [] ≡ ascii "timed 2 0 0\n0 60 60 25 60 20 30\n1 60 80 35 80 30 10\n"

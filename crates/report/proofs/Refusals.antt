@@ -7,14 +7,14 @@ use Prim.Native.Nat.{ℕ, _≤_}
 use native.Mathlib.Omega.{arith}
 use lib.Dec.{ltb, eqb}
 use lib.ListN.{length}
-use Rattle.image.specs.Kind.{headerOf, imageOf, mostPhases, mostSynchronizers, mostArcs}
-use Rattle.image.specs.declared.kind.Header.{Header}
+use Rattle.image.specs.Header.{headerOf, imageOf, mostPhases, mostSynchronizers, mostArcs}
+use Rattle.image.specs.declared.header.Header.{Header}
 use Rattle.image.specs.Rules.{badCycle, badCounts, badLayout, breaksOf, lowestOf}
 use Rattle.image.specs.Checks.{refuse, refuseAt, recordsOf, checkOf}
 use Rattle.image.specs.declared.rules.Rule.the-variants.{Phases, Synchronizers, Arcs, Order}
 use Rattle.image.specs.declared.checks.Checked.{Checked}
 use Rattle.image.specs.declared.checks.Checked.the-variants.{Refused}
-use Rattle.image.proofs.Lowest.{lowest-is}
+use Rattle.image.proofs.FirstBad.{lowest-is}
 use Rattle.image.proofs.Tests.{ltb-iff, or-iff}
 
 abbrev pub Few : ℕ → ℕ → Type 0

@@ -11,10 +11,11 @@ use lib.IntN.{ℤ, pos, negsuc, natAbs}
 use lib.ListN.{length, drop, getD, length-append, List·getD-append}
 use lib.Signed.{_≤ℤ_, _<ℤ_}
 use borrow.Author.Tests.{ltb-true, ltb-false}
+use Rattle.image.specs.Header.{mostSynchronizers}
 use Rattle.ticks.proofs.Ints.{ints, sum}
 use Rattle.flow.specs.Flow.{Flow, Good, late}
 use Rattle.flow.specs.Walk.{Walk, gain, sources, Every, Distinct, Shown}
-use Rattle.flow.proofs.Below.{pigeons}
+use Rattle.flow.proofs.Pigeonhole.{pigeons}
 use Rattle.circuit.specs.Circuit.{Circuit}
 use Rattle.circuit.specs.Clock.{flow}
 use Rattle.circuit.proofs.Sound.{Sound, good}
@@ -68,14 +69,14 @@ module _ (c : Circuit) (v : Sound c) {count : ℕ} {total : ℤ} {before after :
   abbrev path : List ℕ
   path = s .grows .ring .path
 
-  path-few : length path ≤ 512
+  path-few : length path ≤ mostSynchronizers
   path-few =
       let f = flow late c in
       let r = s .grows .ring in
       let few = distinct-few (sources f path) (c .synchronizers) (r .distinct) (sources-below f (good late c v) path (r .start) (r .start) (r .closed)) in
       omega (arith, few, sources-long f path, v .synchronizers)
 
-  pub count-few : count ≤ 512
+  pub count-few : count ≤ mostSynchronizers
   count-few = omega (arith, s .counted, path-few)
 
   pub gain-few : natAbs total < 10 ^ 13

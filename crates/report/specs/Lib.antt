@@ -1,5 +1,6 @@
+pub mod Limits
 pub mod Ascii
 pub mod Decimal
 pub mod Text
-pub mod Written
 pub mod Promise
+pub mod inside

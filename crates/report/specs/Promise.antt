@@ -5,16 +5,17 @@ use Prim.Native.Nat.{ℕ}
 use lib.IntN.{ℤ, pos}
 use lib.ListN.{length, drop, replicate}
 use Rattle.circuit.specs.Circuit.{circuitOf}
-use Rattle.timing.specs.Promise.{Timing}
-use Rattle.timing.specs.declared.call.Answer.{Answer}
+use Rattle.timing.specs.TimingPromise.{Timing}
+use Rattle.timing.specs.declared.timing_call.Answer.{Answer}
+use Rattle.report.specs.Limits.{LENT-NUMBERS, LENT-ARCS}
 use Rattle.report.specs.Text.{textOf}
 
 -- the buffers that timing is lent: long enough for every good image
 abbrev pub zeros : List ℤ
-zeros = replicate 3072 (pos 0)
+zeros = replicate LENT-NUMBERS (pos 0)
 
 abbrev pub noArcs : List ℕ
-noArcs = replicate 512 0
+noArcs = replicate LENT-ARCS 0
 
 -- the report of what timing gave for an image
 abbrev pub reportOf : List ℕ → Answer → List ℤ → List ℕ → List ℕ

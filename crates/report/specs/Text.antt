@@ -1,4 +1,4 @@
--- The text of a report, as document 01 prints it.
+-- The text of a report (docs/RULES.md, "The calls").
 use mathlib.Core.List.{List, [], _∷_, _++_, map}
 use Prim.Native.Char.{code}
 use Prim.Native.Nat.{ℕ, zero, suc, _*_}
@@ -6,8 +6,8 @@ use lib.IntN.{ℤ}
 use lib.ListN.{take, drop, getD}
 use Rattle.report.specs.Ascii.{ascii}
 use Rattle.report.specs.Decimal.{digits, signed, result}
-use Rattle.timing.specs.declared.call.Answer.{Answer}
-use Rattle.timing.specs.declared.call.Answer.the-variants.{Refused, Growing, Timed}
+use Rattle.timing.specs.declared.timing_call.Answer.{Answer}
+use Rattle.timing.specs.declared.timing_call.Answer.the-variants.{Refused, Growing, Timed}
 
 abbrev pub space : ℕ
 space = code " "
@@ -33,9 +33,13 @@ each text (suc n) = each text n ++ text n
 abbrev pub arcLine : List ℕ → ℕ → List ℕ
 arcLine arcs i = line (digits (getD arcs i 0)) []
 
+-- the six results from a place on, each a field
+abbrev pub six : List ℤ → ℕ → List (List ℕ)
+six numbers first = map result (take 6 (drop first numbers))
+
 -- the line of a synchronizer: its number and its six results
 abbrev pub row : List ℤ → ℕ → List ℕ
-row numbers i = line (digits i) (map result (take 6 (drop (6 * i) numbers)))
+row numbers i = line (digits i) (six numbers (6 * i))
 
 -- the report of timing's answer about a circuit of l synchronizers, with the two buffers as timing left them
 unfoldable pub textOf : ℕ → Answer → List ℤ → List ℕ → List ℕ

@@ -5,14 +5,14 @@ ghost use Prim.Native.Nat.{_<_};
 ghost use lib.IntN.{pos, natAbs};
 ghost use lib.Signed.{_<ℤ_};
 ghost use Rattle.report.specs.Decimal.{digit, digits, signed, result};
-ghost use Rattle.report.specs.Written.{Room, Wrote};
+ghost use Rattle.report.specs.inside.Written.{RoomFor, Wrote};
 
 // What stands where no arc leads in.
 const MARK: i64 = 9_223_372_036_854_775_807;
 
 // One character.
 pub(crate) fn write_byte(byte: u8, at: usize, text: &mut [u8]) -> usize
-    requires { ⌜ Room (byte ∷ []) at (now text) ⌝ }
+    requires { ⌜ RoomFor (byte ∷ []) at (now text) ⌝ }
     ensures { λ r. ⌜ Wrote (byte ∷ []) (now (text .entry)) at (now (text .exit)) r ⌝ }
 {
     text[at] = byte;
@@ -29,7 +29,7 @@ fn digit_of(d: u64) -> u8
 
 // A number in decimal: its tens first, if it has any, then its ones.
 pub(crate) fn write_digits(n: u64, at: usize, text: &mut [u8]) -> usize
-    requires { ⌜ Room (digits n) at (now text) ⌝ }
+    requires { ⌜ RoomFor (digits n) at (now text) ⌝ }
     ensures { λ r. ⌜ Wrote (digits n) (now (text .entry)) at (now (text .exit)) r ⌝ }
 {
     if n < 10 {
@@ -49,7 +49,7 @@ fn size(z: i64) -> u64
 
 // A signed number.
 pub(crate) fn write_signed(z: i64, at: usize, text: &mut [u8]) -> usize
-    requires { ⌜ Room (signed z) at (now text) ⌝ }
+    requires { ⌜ RoomFor (signed z) at (now text) ⌝ }
     ensures { λ r. ⌜ Wrote (signed z) (now (text .entry)) at (now (text .exit)) r ⌝ }
 {
     if z < 0 {
@@ -61,7 +61,7 @@ pub(crate) fn write_signed(z: i64, at: usize, text: &mut [u8]) -> usize
 
 // A result: a number, or a dash for the mark.
 pub(crate) fn write_result(z: i64, at: usize, text: &mut [u8]) -> usize
-    requires { ⌜ Room (result z) at (now text) ⌝ }
+    requires { ⌜ RoomFor (result z) at (now text) ⌝ }
     ensures { λ r. ⌜ Wrote (result z) (now (text .entry)) at (now (text .exit)) r ⌝ }
 {
     if z == MARK {

@@ -1,7 +1,7 @@
-// Report: timing's answer as text. One call times an image and writes what document 01 prints of it into a buffer that is lent.
-mod call;
+// Report: timing's answer as text. One call times an image and writes its report (docs/RULES.md) into a buffer that is lent.
 mod decimal;
 mod lines;
+mod report_call;
 
-pub use call::LONGEST;
-pub use call::report;
+pub use report_call::LONGEST;
+pub use report_call::report;

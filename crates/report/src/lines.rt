@@ -1,10 +1,10 @@
 // Fields and lines. Each function writes from `at` on and returns the place after what it wrote.
-ghost use mathlib.Core.List.{[], _∷_, map};
+ghost use mathlib.Core.List.{[], _∷_};
 ghost use Prim.Native.Nat.{suc, _*_, _+_, _≤_};
-ghost use lib.ListN.{length, take, drop};
+ghost use lib.ListN.{length};
 ghost use Rattle.report.specs.Decimal.{digits, signed, result};
-ghost use Rattle.report.specs.Text.{space, spaced, line, each, arcLine, row};
-ghost use Rattle.report.specs.Written.{Room, Wrote};
+ghost use Rattle.report.specs.Text.{space, spaced, line, each, arcLine, six, row};
+ghost use Rattle.report.specs.inside.Written.{RoomFor, Wrote};
 use crate::decimal::write_byte;
 use crate::decimal::write_digits;
 use crate::decimal::write_result;
@@ -12,7 +12,7 @@ use crate::decimal::write_signed;
 
 // A word as it is.
 pub(crate) fn write_word(word: &[u8], at: usize, text: &mut [u8]) -> usize
-    requires { ⌜ Room (now word) at (now text) ⌝ }
+    requires { ⌜ RoomFor (now word) at (now text) ⌝ }
     ensures { λ r. ⌜ Wrote (now (word .entry)) (now (text .entry)) at (now (text .exit)) r ⌝ }
 {
     let mut next = at;
@@ -26,7 +26,7 @@ pub(crate) fn write_word(word: &[u8], at: usize, text: &mut [u8]) -> usize
 
 // A space and a number.
 pub(crate) fn write_number(n: u64, at: usize, text: &mut [u8]) -> usize
-    requires { ⌜ Room (space ∷ digits n) at (now text) ⌝ }
+    requires { ⌜ RoomFor (space ∷ digits n) at (now text) ⌝ }
     ensures { λ r. ⌜ Wrote (space ∷ digits n) (now (text .entry)) at (now (text .exit)) r ⌝ }
 {
     let next = write_byte(b' ', at, text);
@@ -35,7 +35,7 @@ pub(crate) fn write_number(n: u64, at: usize, text: &mut [u8]) -> usize
 
 // A space and a signed number.
 pub(crate) fn write_gain(gain: i64, at: usize, text: &mut [u8]) -> usize
-    requires { ⌜ Room (space ∷ signed gain) at (now text) ⌝ }
+    requires { ⌜ RoomFor (space ∷ signed gain) at (now text) ⌝ }
     ensures { λ r. ⌜ Wrote (space ∷ signed gain) (now (text .entry)) at (now (text .exit)) r ⌝ }
 {
     let next = write_byte(b' ', at, text);
@@ -44,7 +44,7 @@ pub(crate) fn write_gain(gain: i64, at: usize, text: &mut [u8]) -> usize
 
 // A space and a result.
 fn write_time(time: i64, at: usize, text: &mut [u8]) -> usize
-    requires { ⌜ Room (space ∷ result time) at (now text) ⌝ }
+    requires { ⌜ RoomFor (space ∷ result time) at (now text) ⌝ }
     ensures { λ r. ⌜ Wrote (space ∷ result time) (now (text .entry)) at (now (text .exit)) r ⌝ }
 {
     let next = write_byte(b' ', at, text);
@@ -53,7 +53,7 @@ fn write_time(time: i64, at: usize, text: &mut [u8]) -> usize
 
 // The line of an arc.
 fn write_arc(arc: u32, at: usize, text: &mut [u8]) -> usize
-    requires { ⌜ Room (line (digits arc) []) at (now text) ⌝ }
+    requires { ⌜ RoomFor (line (digits arc) []) at (now text) ⌝ }
     ensures { λ r. ⌜ Wrote (line (digits arc) []) (now (text .entry)) at (now (text .exit)) r ⌝ }
 {
     let next = write_digits(arc as u64, at, text);
@@ -63,7 +63,7 @@ fn write_arc(arc: u32, at: usize, text: &mut [u8]) -> usize
 // The lines of the first arcs of the buffer.
 pub(crate) fn write_arcs(arcs: &[u32], count: usize, at: usize, text: &mut [u8]) -> usize
     requires { ⌜ count ≤ length (now arcs) ⌝ }
-    requires { ⌜ Room (each (arcLine (now arcs)) count) at (now text) ⌝ }
+    requires { ⌜ RoomFor (each (arcLine (now arcs)) count) at (now text) ⌝ }
     ensures { λ r. ⌜ Wrote (each (arcLine (now (arcs .entry))) count) (now (text .entry)) at (now (text .exit)) r ⌝ }
 {
     let mut next = at;
@@ -78,8 +78,8 @@ pub(crate) fn write_arcs(arcs: &[u32], count: usize, at: usize, text: &mut [u8])
 // The six results that stand from `first` on, each after a space.
 fn write_six(numbers: &[i64], first: usize, at: usize, text: &mut [u8]) -> usize
     requires { ⌜ first + 6 ≤ length (now numbers) ⌝ }
-    requires { ⌜ Room (spaced (map result (take 6 (drop first (now numbers))))) at (now text) ⌝ }
-    ensures { λ r. ⌜ Wrote (spaced (map result (take 6 (drop first (now (numbers .entry)))))) (now (text .entry)) at (now (text .exit)) r ⌝ }
+    requires { ⌜ RoomFor (spaced (six (now numbers) first)) at (now text) ⌝ }
+    ensures { λ r. ⌜ Wrote (spaced (six (now (numbers .entry)) first)) (now (text .entry)) at (now (text .exit)) r ⌝ }
 {
     let mut next = at;
     let mut j: usize = 0;
@@ -93,7 +93,7 @@ fn write_six(numbers: &[i64], first: usize, at: usize, text: &mut [u8]) -> usize
 // The line of synchronizer i.
 fn write_row(numbers: &[i64], i: usize, at: usize, text: &mut [u8]) -> usize
     requires { ⌜ 6 * suc i ≤ length (now numbers) ⌝ }
-    requires { ⌜ Room (row (now numbers) i) at (now text) ⌝ }
+    requires { ⌜ RoomFor (row (now numbers) i) at (now text) ⌝ }
     ensures { λ r. ⌜ Wrote (row (now (numbers .entry)) i) (now (text .entry)) at (now (text .exit)) r ⌝ }
 {
     let next = write_digits(i as u64, at, text);
@@ -104,7 +104,7 @@ fn write_row(numbers: &[i64], i: usize, at: usize, text: &mut [u8]) -> usize
 // The lines of the first synchronizers.
 pub(crate) fn write_rows(numbers: &[i64], l: usize, at: usize, text: &mut [u8]) -> usize
     requires { ⌜ 6 * l ≤ length (now numbers) ⌝ }
-    requires { ⌜ Room (each (row (now numbers)) l) at (now text) ⌝ }
+    requires { ⌜ RoomFor (each (row (now numbers)) l) at (now text) ⌝ }
     ensures { λ r. ⌜ Wrote (each (row (now (numbers .entry))) l) (now (text .entry)) at (now (text .exit)) r ⌝ }
 {
     let mut next = at;

@@ -4,12 +4,9 @@ use mathlib.Core.List.{List}
 use Prim.Native.Nat.{ℕ, _+_, _<_}
 use native.Mathlib.Omega.{arith}
 use native.Mathlib.Decide.{ℕ-discrete}
-use lib.ListN.{length, getD, set, length-set}
+use lib.ListN.{length, set, length-set}
 use lib.Seq.{getD-set-same, getD-set-other}
-
-pub record Filled (size : ℕ) (f : ℕ → ℕ) (xs : List ℕ) (i : ℕ) : Type 0 where
-  pub long : length xs ≡ size
-  pub holds : (j : ℕ) → j < i → getD xs j 0 ≡ f j
+use Rattle.tables.specs.inside.Filled.{Filled}
 
 module _ {size : ℕ} {f : ℕ → ℕ} {xs : List ℕ} where
   pub fill-none : length xs ≡ size → Filled size f xs 0

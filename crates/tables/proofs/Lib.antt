@@ -1,8 +1,8 @@
 -- The laws that tie the tables to the flows.
-pub mod Best
+pub mod WalksOverArcs
 pub mod Models
 pub mod Filled
-pub mod Nearer
+pub mod NearestArc
 pub mod Trails
 pub mod Orders
 pub mod Raising

@@ -9,10 +9,11 @@ use lib.Dec.{eqb}
 use lib.ListN.{length, getD, set, length-set}
 use lib.Seq.{getD-set-same, getD-set-other}
 use borrow.Author.Tests.{eq-eqb, ne-eqb}
-use Rattle.flow.proofs.Below.{pigeons}
-use Rattle.tables.specs.Net.{timesOf}
-use Rattle.tables.specs.Listing.{Listed, Enlisted, Order, Stacked}
-use Rattle.tables.specs.Passing.{toOrFro}
+use Rattle.flow.proofs.Pigeonhole.{pigeons}
+use Rattle.tables.specs.inside.Net.{timesOf}
+use Rattle.tables.specs.inside.Listing.{Listed, Enlisted, Order, Stacked}
+use Rattle.tables.specs.inside.Passing.{toOrFro}
+use Rattle.tables.specs.inside.Sizes.{NODES}
 
 -- one place more
 pub listed-more : (list : ℕ → ℕ) (n j : ℕ) → Listed list n j → Listed list (n + 1) j
@@ -27,9 +28,9 @@ pub order-all : (l : ℕ) → Order l (λ i. i)
 order-all l = record { nodes = λ x k. k; all = λ j k. (j, k, refl) }
 
 -- an order gone over to, or fro
-pub order-turned : (forth : Bool) (l : ℕ) (list : ℕ → ℕ) → Order l list → Order l (λ z. list (toOrFro forth l z))
-order-turned true l list h = h
-order-turned false l list h = record {
+pub order-turned : (forth : Bool) {l : ℕ} {list : ℕ → ℕ} → Order l list → Order l (λ z. list (toOrFro forth l z))
+order-turned true h = h
+order-turned false {l} {list} h = record {
   nodes = λ x k. h .nodes (l - 1 - x) (omega arith);
   all = λ j k.
       let o = h .all j k in
@@ -46,8 +47,8 @@ few-listed list n l inside apart = elim (decLt l n) [
 ]
 
 -- the empty list
-pub enlist-none : (l : ℕ) (marks list : List ℕ) → length marks ≡ 512 → length list ≡ 512 → ((j : ℕ) → getD marks j 0 ≡ 0) → Enlisted l marks list 0
-enlist-none l marks list e f blank = record {
+pub enlist-none : {l : ℕ} {marks list : List ℕ} → length marks ≡ NODES → length list ≡ NODES → ((j : ℕ) → getD marks j 0 ≡ 0) → Enlisted l marks list 0
+enlist-none e f blank = record {
   long = (e, f);
   nodes = λ x k. let z : ⊥ = omega arith in absurd z;
   apart = λ y k. let z : ⊥ = omega arith in absurd z;
@@ -55,7 +56,7 @@ enlist-none l marks list e f blank = record {
   listed = λ j q. let z : ⊥ = omega (arith, blank j, q) in absurd z;
 }
 
-module _ (l : ℕ) (marks list : List ℕ) (count i : ℕ) (here : i < l) (few : l ≤ 512) (h : Enlisted l marks list count)
+module _ {l : ℕ} {marks list : List ℕ} {count : ℕ} (i : ℕ) (here : i < l) (few : l ≤ NODES) (h : Enlisted l marks list count)
     (new : getD marks i 0 ≡ 1 → ⊥) where
   fresh : (x : ℕ) → x < count → getD list x 0 ≡ i → ⊥
   fresh x k e = new (rw e at (h .marked x k))
@@ -124,9 +125,9 @@ module _ (l : ℕ) (marks list : List ℕ) (count i : ℕ) (here : i < l) (few :
       mark = getD-set-same marks i 1 0 (omega (arith, h .long .0))
 
 -- a list without repeats that has all nodes is an order of them
-pub enlist-all : (l : ℕ) (marks list : List ℕ) (count : ℕ) → Enlisted l marks list count →
+pub enlist-all : {l : ℕ} {marks list : List ℕ} {count : ℕ} → Enlisted l marks list count →
     ((j : ℕ) → j < l → Listed (timesOf list) count j) → Order l (timesOf list)
-enlist-all l marks list count h all = record {
+enlist-all {l} {marks} {list} {count} h all = record {
   nodes = λ x k. h .nodes x (omega (arith, enough));
   all = λ j k. let o = all j k in (o .0, omega (arith, o .1, few-listed (timesOf list) count l (h .nodes) (h .apart)), o .2);
 }
@@ -148,11 +149,11 @@ enlist-all l marks list count h all = record {
     ]
 
 -- a stack: nothing on it, one node more, one fewer
-pub stack-none : (l : ℕ) (stack : List ℕ) → length stack ≡ 512 → Stacked l stack 0
-stack-none l stack e = record { long = e; few = omega arith; nodes = λ x k. let z : ⊥ = omega arith in absurd z }
+pub stack-none : {l : ℕ} {stack : List ℕ} → length stack ≡ NODES → Stacked l stack 0
+stack-none e = record { long = e; few = omega arith; nodes = λ x k. let z : ⊥ = omega arith in absurd z }
 
-pub stack-more : (l : ℕ) (stack : List ℕ) (depth i : ℕ) → l ≤ 512 → i < l → depth < l → Stacked l stack depth → Stacked l (set stack depth i) (depth + 1)
-stack-more l stack depth i most here room h = record {
+pub stack-more : {l : ℕ} {stack : List ℕ} {depth : ℕ} (i : ℕ) → l ≤ NODES → i < l → depth < l → Stacked l stack depth → Stacked l (set stack depth i) (depth + 1)
+stack-more {stack = stack} {depth} i most here room h = record {
   long = length-set stack depth i ∙ h .long;
   few = omega arith;
   nodes = λ x k. elim (ℕ-discrete x depth) [
@@ -161,5 +162,5 @@ stack-more l stack depth i most here room h = record {
   ];
 }
 
-pub stack-less : (l : ℕ) (stack : List ℕ) (depth : ℕ) → Stacked l stack depth → Stacked l stack (depth - 1)
-stack-less l stack depth h = record { long = h .long; few = omega (arith, h .few); nodes = λ x k. h .nodes x (omega arith) }
+pub stack-less : {l : ℕ} {stack : List ℕ} {depth : ℕ} → Stacked l stack depth → Stacked l stack (depth - 1)
+stack-less h = record { long = h .long; few = omega (arith, h .few); nodes = λ x k. h .nodes x (omega arith) }

@@ -8,21 +8,23 @@ use native.Mathlib.Decide.{ℕ-discrete}
 use lib.ListN.{length, getD, set, length-set}
 use lib.Seq.{getD-set-same, getD-set-other, set-getD}
 use Rattle.flow.specs.Flow.{Side}
-use Rattle.tables.specs.Net.{Net, timesOf, arrivalN, Ranged}
-use Rattle.tables.specs.Raise.{raised, Raise, raise, Lifted, Brings, Room, Sweepable}
-use Rattle.tables.specs.Parents.{Course}
-use Rattle.tables.specs.Listing.{Order}
-use Rattle.tables.specs.Passing.{toOrFro, Same, Still, Rested, Swept, Sweep, Passing}
+use Rattle.tables.specs.inside.Net.{Net, timesOf, arrivalN, Ranged}
+use Rattle.tables.specs.inside.Raise.{raised, Raise, raise, Lifted, Brings, Room, Sweepable}
+use Rattle.tables.specs.inside.Listing.{Order}
+use Rattle.tables.specs.inside.Passing.{toOrFro, Unmoved, Still, Rested, Swept, Sweep, Passing}
 use Rattle.tables.proofs.Raising.{raised-mono, raise-rises, raised-still, room-less, room-raise}
-use Rattle.tables.proofs.Stamping.{stamped, parented-more}
+use Rattle.tables.proofs.Stamping.{parented-more}
+use Rattle.tables.specs.inside.Sizes.{NODES}
 
 -- in a pass there is room for all that is left of it
-pub sweep-room : {s : Side} {n : Net} {l : ℕ} {D node : ℕ → ℕ} {x : ℕ} {departs : List ℕ} → Room l l D → Swept s n l D node x departs → x ≤ l → Room l (l - x) (timesOf departs)
+pub sweep-room : {s : Side} {n : Net} {l : ℕ} {D node : ℕ → ℕ} {x : ℕ} {departs : List ℕ} → Room l l D → Swept s n l D node x departs → x ≤ l →
+    Room l (l - x) (timesOf departs)
 sweep-room {l = l} {x = x} h p k = let e : l - x + x ≡ l = omega arith in p .room (l - x) (rw e h)
 
-module _ (s : Side) (n : Net) (l : ℕ) (t : Sweepable n l) where
-  pub sweep-none : (node : ℕ → ℕ) (departs : List ℕ) (start : ℕ) → length departs ≡ 512 → Rested s n (timesOf departs) node start → Swept s n l (timesOf departs) node start departs
-  sweep-none node departs start e rested = record {
+module _ {s : Side} {n : Net} {l : ℕ} (t : Sweepable n l) where
+  pub sweep-none : {node : ℕ → ℕ} {departs : List ℕ} {start : ℕ} → length departs ≡ NODES → Rested s n (timesOf departs) node start →
+      Swept s n l (timesOf departs) node start departs
+  sweep-none e rested = record {
     long = e;
     onward = λ launch h. h;
     later = λ j h. omega arith;
@@ -30,8 +32,8 @@ module _ (s : Side) (n : Net) (l : ℕ) (t : Sweepable n l) where
     room = λ b h. room-less b (omega arith) h;
   }
 
-  module _ (D node : ℕ → ℕ) (x : ℕ) (departs : List ℕ) (here : node x < l) (ranged : Ranged l (timesOf departs))
-      (p : Swept s n l D node x departs) where
+  module _ {D node : ℕ → ℕ} {x : ℕ} {departs : List ℕ} (p : Swept s n l D node x departs) (here : node x < l)
+      (ranged : Ranged l (timesOf departs)) where
     abbrev i : ℕ
     i = node x
 
@@ -48,7 +50,7 @@ module _ (s : Side) (n : Net) (l : ℕ) (t : Sweepable n l) where
     step = record { here = here; new = new; rest = λ j h d. other j d }
 
     grows : (j : ℕ) → j < l → getD departs j 0 ≤ getD after j 0
-    grows = raise-rises s n l (t .arcs) (t .shaped) i (timesOf departs) (timesOf after) step
+    grows = raise-rises s (t .shaped) step
 
     pub sweep-more : Swept s n l D node (x + 1) after
     sweep-more = record {
@@ -56,7 +58,7 @@ module _ (s : Side) (n : Net) (l : ℕ) (t : Sweepable n l) where
       onward = λ launch h. raise {D = timesOf departs} {E = timesOf after} i (p .onward launch h) ranged step;
       later = λ j h. omega (arith, p .later j h, grows j h);
       tried = λ z k. elim (ℕ-discrete z x) [
-        | yes q ↦ rw (q, new) (raised-mono s n l (t .arcs) (t .shaped) D (timesOf departs) (p .later) i here)
+        | yes q ↦ rw (q, new) (raised-mono s (t .shaped) D (timesOf departs) (p .later) i here)
         | no q ↦ elim (ℕ-discrete (node z) i) [
           | yes o ↦ (let u = rw o at (p .tried z (omega arith)) in rw o (omega (arith, u, grows i here)))
           | no o ↦ rw (other (node z) o) (p .tried z (omega arith))
@@ -64,7 +66,7 @@ module _ (s : Side) (n : Net) (l : ℕ) (t : Sweepable n l) where
       ];
       room = λ b h.
           let e : b + (x + 1) ≡ suc b + x = omega arith in
-          room-raise s n l t b step (p .room (suc b) (rw e at h));
+          room-raise s t b step (p .room (suc b) (rw e at h));
     }
 
     -- a node that stays
@@ -72,19 +74,19 @@ module _ (s : Side) (n : Net) (l : ℕ) (t : Sweepable n l) where
     sweep-stays e = let q : after ≡ departs = ap (set departs i) e ∙ set-getD departs i 0 in rw q at sweep-more
 
   -- places: where a node was raised none rests yet; where it stays it rests too
-  pub sweep-start : (node : ℕ → ℕ) (departs : List ℕ) (start : ℕ) → start ≤ l → length departs ≡ 512 → Rested s n (timesOf departs) node start →
+  pub sweep-start : {node : ℕ → ℕ} {departs : List ℕ} {start : ℕ} → start ≤ l → length departs ≡ NODES → Rested s n (timesOf departs) node start →
       Sweep s n l (timesOf departs) node start departs l
-  sweep-start node departs start few e rested = record {
-    swept = sweep-none node departs start e rested;
+  sweep-start few e rested = record {
+    swept = sweep-none e rested;
     rests = λ z h k. let o : ⊥ = omega arith in absurd o;
     same = λ h j k. refl;
   }
 
-  module _ (D node : ℕ → ℕ) (x : ℕ) (departs next : List ℕ) (last : ℕ) (here : node x < l) (more : x < l) (ranged : Ranged l (timesOf departs))
-      (p : Sweep s n l D node x departs last) where
+  module _ {D node : ℕ → ℕ} {x : ℕ} {departs next : List ℕ} {last : ℕ} (p : Sweep s n l D node x departs last) (here : node x < l) (more : x < l)
+      (ranged : Ranged l (timesOf departs)) where
     pub sweep-rises : Lifted s n (node x) departs true next → Sweep s n l D node (x + 1) next x
     sweep-rises h = rw (h .stored) (record {
-      swept = sweep-more D node x departs here ranged (p .swept);
+      swept = sweep-more (p .swept) here ranged;
       rests = λ z k o. let e : ⊥ = omega arith in absurd e;
       same = λ k. let e : ⊥ = omega arith in absurd e;
     })
@@ -94,60 +96,62 @@ module _ (s : Side) (n : Net) (l : ℕ) (t : Sweepable n l) where
         let e = h .stays refl in
         let q : next ≡ departs = h .stored ∙ ap (set departs (node x)) e ∙ set-getD departs (node x) 0 in
         rw q (record {
-          swept = sweep-stays D node x departs here ranged (p .swept) e;
+          swept = sweep-stays (p .swept) here ranged e;
           rests = λ z k o. elim (ℕ-discrete z x) [ yes q ↦ rw q e | no q ↦ p .rests z k (omega arith) ];
           same = p .same;
         })
 
   -- the pass that goes back starts at the last place that was raised
-  pub sweep-back : (forth : Bool) (D : ℕ → ℕ) (departs : List ℕ) (last : ℕ) → last < l → Sweep s n l D (toOrFro forth l) l departs last →
+  pub sweep-back : (forth : Bool) {D : ℕ → ℕ} {departs : List ℕ} {last : ℕ} → last < l → Sweep s n l D (toOrFro forth l) l departs last →
       Rested s n (timesOf departs) (toOrFro (not forth) l) (l - 1 - last)
-  sweep-back true D departs last h p z k = p .rests (l - 1 - z) (omega arith) (omega arith)
-  sweep-back false D departs last h p z k = let e : l - 1 - (l - 1 - z) ≡ z = omega arith in rw e at (p .rests (l - 1 - z) (omega arith) (omega arith))
+  sweep-back true h p z k = p .rests (l - 1 - z) (omega arith) (omega arith)
+  sweep-back false h p z k =
+      let e : l - 1 - (l - 1 - z) ≡ z = omega arith in rw e at (p .rests (l - 1 - z) (omega arith) (omega arith))
 
   -- a pass over all nodes that raised none
-  pub sweep-still : (D node : ℕ → ℕ) (departs : List ℕ) → Order l node → Swept s n l D node l departs → Same l D (timesOf departs) → Still s n l (timesOf departs)
-  sweep-still D node departs order p same = raised-still s n l (t .arcs) (t .shaped) D (timesOf departs) same (λ j h.
+  pub sweep-still : {D node : ℕ → ℕ} {departs : List ℕ} → Order l node → Swept s n l D node l departs → Unmoved l D (timesOf departs) →
+      Still s n l (timesOf departs)
+  sweep-still {D} {departs = departs} order p same = raised-still s (t .shaped) D (timesOf departs) same (λ j h.
       let o = order .all j h in rw (o .2) at (p .tried (o .0) (o .1)))
 
   -- passes that note parents
-  pub passing-none : (node : ℕ → ℕ) (departs parents : List ℕ) → length departs ≡ 512 → length parents ≡ 512 →
+  pub passing-none : {node : ℕ → ℕ} {departs parents : List ℕ} → length departs ≡ NODES → length parents ≡ NODES →
       Passing s n l (timesOf departs) (timesOf parents) node 0 departs parents l
-  passing-none node departs parents e f = record {
-    swept = sweep-none node departs 0 e (λ z k. let o : ⊥ = omega arith in absurd o);
+  passing-none e f = record {
+    swept = sweep-none e (λ z k. let o : ⊥ = omega arith in absurd o);
     long = f;
     course = λ base c. c;
     rose = λ k. let o : ⊥ = omega arith in absurd o;
     same = λ k j h. refl;
   }
 
-  module _ (D P node : ℕ → ℕ) (x : ℕ) (departs parents : List ℕ) (last : ℕ) (here : node x < l) (ranged : Ranged l (timesOf departs))
-      (p : Passing s n l D P node x departs parents last) where
+  module _ {D P node : ℕ → ℕ} {x : ℕ} {departs parents : List ℕ} {last : ℕ} (p : Passing s n l D P node x departs parents last) (here : node x < l)
+      (ranged : Ranged l (timesOf departs)) where
     pub passing-stays : raised s n (timesOf departs) (node x) ≡ getD departs (node x) 0 → Passing s n l D P node (x + 1) departs parents last
     passing-stays e = record {
-      swept = sweep-stays D node x departs here ranged (p .swept) e;
+      swept = sweep-stays (p .swept) here ranged e;
       long = p .long;
       course = p .course;
       rose = p .rose;
       same = p .same;
     }
 
-    module _ (a : ℕ) (up : getD departs (node x) 0 < raised s n (timesOf departs) (node x))
+    module _ {a : ℕ} (up : getD departs (node x) 0 < raised s n (timesOf departs) (node x))
         (d : Brings (n .arcs) (timesOf departs) (n .first (node x)) (n .first (node x + 1)) (arrivalN s n (timesOf departs) (node x)) a) where
       abbrev lifted : List ℕ
       lifted = set departs (node x) (raised s n (timesOf departs) (node x))
 
       pub passing-rises : Passing s n l D P node (x + 1) lifted (set parents (node x) a) (node x)
       passing-rises =
-          let g = step D node x departs here ranged (p .swept) in
+          let g = step (p .swept) here ranged in
           let room : node x < length parents = omega (arith, here, t .shaped .nodes, p .long) in
           record {
-            swept = sweep-more D node x departs here ranged (p .swept);
+            swept = sweep-more (p .swept) here ranged;
             long = length-set parents (node x) a ∙ p .long;
             course = λ base c. let k = p .course base c in record {
               raises = suc (k .raises);
               stamps = _;
-              parented = parented-more s n l (t .arcs) (t .shaped) (node x) (timesOf departs) (timesOf lifted) (k .stamps) (k .raises) parents a g up
+              parented = parented-more (t .shaped) (k .stamps) (k .raises) parents a g up
                   (d .above) (d .below) (d .brings) ranged room (k .parented);
             };
             rose = λ k. rw (g .new) (omega (arith, p .swept .later (node x) here, up));

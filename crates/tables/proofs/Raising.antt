@@ -6,17 +6,18 @@ use native.Mathlib.Omega.{arith}
 use native.Mathlib.Decide.{ℕ-discrete}
 use lib.Dec.{eqb}
 use borrow.Author.Tests.{ne-eqb}
-use Rattle.ticks.specs.Raised.{RAISE, lower}
+use Rattle.ticks.specs.inside.Raised.{RAISE, lower, FAR}
 use Rattle.ticks.proofs.Raised.{lower-le, le-lower}
-use Rattle.flow.specs.Flow.{Flow, Good, Side, late, early, next, round, Least}
-use Rattle.flow.specs.Bounds.{Bounded}
-use Rattle.flow.specs.Updates.{Updated, launched, updated}
+use Rattle.flow.specs.Flow.{Flow, Good, Side, late, early, next, Least}
+use Rattle.flow.specs.inside.Rounds.{round}
+use Rattle.flow.specs.inside.Within.{Bounded}
+use Rattle.flow.specs.inside.Updates.{Updated, launched, updated}
 use Rattle.flow.proofs.Updates.{updated-rises, updated-least, pass-round}
-use Rattle.tables.specs.Net.{Arcs, Net, brought, better, best, launching, degree, arrivalN, departing, departN, Shaped, Ranged}
-use Rattle.tables.specs.Models.{Models}
-use Rattle.tables.specs.Raise.{raised, Raise, Risen, at-launch, raise, Passed, none, pass, Room, Sweepable}
-use Rattle.tables.specs.Passing.{Same, Still}
-use Rattle.tables.proofs.Models.{lowered, depart-models}
+use Rattle.tables.specs.inside.Net.{Arcs, Net, brought, better, best, launching, degree, arrivalN, departing, departN, Shaped, Ranged}
+use Rattle.tables.specs.inside.Models.{Models, lowered}
+use Rattle.tables.specs.inside.Raise.{raised, Raise, Risen, at-launch, raise, Passed, none, pass, Room, Sweepable}
+use Rattle.tables.specs.inside.Passing.{Unmoved, Still}
+use Rattle.tables.proofs.Models.{depart-models}
 
 step : {a b c : ℕ} → a ≤ b → b ≤ c → a ≤ c
 step h k = omega arith
@@ -42,47 +43,47 @@ departing-above b d t x = go b (eqb d 0)
     go true true = omega arith
 
 -- D is nowhere later than E, over l nodes
-abbrev pub Before : ℕ → (ℕ → ℕ) → (ℕ → ℕ) → Type 0
-Before l D E = (i : ℕ) → i < l → D i ≤ E i
+abbrev pub NoLater : ℕ → (ℕ → ℕ) → (ℕ → ℕ) → Type 0
+NoLater l D E = (i : ℕ) → i < l → D i ≤ E i
 
-module _ (s : Side) (n : Net) (l m : ℕ) (shaped : Shaped n l m) where
-  best-mono : (D E : ℕ → ℕ) → Before l D E → (a k : ℕ) → a + k ≤ m → best s (n .arcs) D a k ≤ best s (n .arcs) E a k
+module _ (s : Side) {n : Net} {l m : ℕ} (shaped : Shaped n l m) where
+  best-mono : (D E : ℕ → ℕ) → NoLater l D E → (a k : ℕ) → a + k ≤ m → best s (n .arcs) D a k ≤ best s (n .arcs) E a k
   unfolding best
   best-mono D E h a zero r = omega arith
   best-mono D E h a (suc k) r =
       let x = h (n .arcs .source (a + k)) (shaped .sources (a + k) (omega arith)) in
       better-mono s _ _ _ _ (best-mono D E h a k (omega arith)) (omega arith)
 
-  pub raised-mono : (D E : ℕ → ℕ) → Before l D E → Before l (raised s n D) (raised s n E)
+  pub raised-mono : (D E : ℕ → ℕ) → NoLater l D E → NoLater l (raised s n D) (raised s n E)
   unfolding raised
   raised-mono D E h i here = departing-mono (n .latch i) (degree n i) _ _ _ _
       (best-mono D E h (n .first i) (degree n i) (omega (arith, shaped .rises i here, shaped .ends i here))) (h i here)
 
-  pub raised-above : (D : ℕ → ℕ) → Before l D (raised s n D)
+  pub raised-above : (D : ℕ → ℕ) → NoLater l D (raised s n D)
   unfolding raised
   raised-above D i here = departing-above (n .latch i) (degree n i) (arrivalN s n D i) (D i)
 
-  pub raise-rises : (i : ℕ) (D E : ℕ → ℕ) → Raise s n l i D E → Before l D E
-  raise-rises i D E r j here = elim (ℕ-discrete j i) [
+  pub raise-rises : {i : ℕ} {D E : ℕ → ℕ} → Raise s n l i D E → NoLater l D E
+  raise-rises {i} {D} r j here = elim (ℕ-discrete j i) [
     | yes q ↦ rw (q, r .new) (raised-above D i (r .here))
     | no q ↦ rw (r .rest j here q) (omega arith)
   ]
 
-  pub raised-still : (D E : ℕ → ℕ) → Same l D E → ((j : ℕ) → j < l → raised s n D j ≤ E j) → Still s n l E
+  pub raised-still : (D E : ℕ → ℕ) → Unmoved l D E → ((j : ℕ) → j < l → raised s n D j ≤ E j) → Still s n l E
   raised-still D E same h j here =
       omega (arith, raised-mono E D (λ i k. omega (arith, same i k)) j here, h j here, raised-above E j here)
 
-  pub risen-launch : {launch D : ℕ → ℕ} → Risen s n l launch D → Before l launch D
+  pub risen-launch : {launch D : ℕ → ℕ} → Risen s n l launch D → NoLater l launch D
   risen-launch (at-launch e) i here = rw (e i here) (omega arith)
-  risen-launch (raise {D} {E} i h r g) j here = omega (arith, risen-launch h j here, raise-rises i D E g j here)
+  risen-launch (raise {D} {E} i h r g) j here = omega (arith, risen-launch h j here, raise-rises g j here)
 
   -- passes
-  pub passed-later : {base : ℕ → ℕ} {k : ℕ} {D : ℕ → ℕ} → Passed s n l base k D → Before l base D
+  pub passed-later : {base : ℕ → ℕ} {k : ℕ} {D : ℕ → ℕ} → Passed s n l base k D → NoLater l base D
   passed-later (none h) i here = h i here
   passed-later (pass {k} {D} {E} h g r) i here = omega (arith, passed-later h i here, raised-above D i here, r i here)
 
   -- passes from a base are passes from all that is below it
-  pub passed-from : {launch base : ℕ → ℕ} → Before l launch base → {k : ℕ} {D : ℕ → ℕ} → Passed s n l base k D → Passed s n l launch k D
+  pub passed-from : {launch base : ℕ → ℕ} → NoLater l launch base → {k : ℕ} {D : ℕ → ℕ} → Passed s n l base k D → Passed s n l launch k D
   passed-from b (none {D} h) = none {D = D} (λ i here. omega (arith, b i here, h i here))
   passed-from b (pass {k} {D} {E} h g r) = pass {k = k} {D = D} {E = E} (passed-from b h) g r
 
@@ -106,7 +107,7 @@ best-high late g D x a (suc k) h r =
     omega arith
 best-high early g D x a k h r = let t = lead-high g D x (a + k) (h (a + k) (omega arith)) (r (a + k) (omega arith)) in omega arith
 
-module _ (s : Side) (n : Net) (l : ℕ) (t : Sweepable n l) where
+module _ (s : Side) {n : Net} {l : ℕ} (t : Sweepable n l) where
   raised-high : (D : ℕ → ℕ) (x : ℕ) → ((i : ℕ) → i < l → D i < x) → (i : ℕ) → i < l → raised s n D i < x + RAISE
   unfolding raised
   raised-high D x h i here = go (n .latch i) (degree n i) (omega (arith, t .shaped .rises i here))
@@ -122,15 +123,15 @@ module _ (s : Side) (n : Net) (l : ℕ) (t : Sweepable n l) where
 
   pub room-raise : {i : ℕ} {D E : ℕ → ℕ} (b : ℕ) → Raise s n l i D E → Room l (suc b) D → Room l b E
   room-raise {i} {D} {E} b g r = record {
-    low = λ j here. omega (arith, r .low j here, raise-rises s n l (t .arcs) (t .shaped) i D E g j here);
+    low = λ j here. omega (arith, r .low j here, raise-rises s (t .shaped) g j here);
     high = λ j here. elim (ℕ-discrete j i) [
-      | yes q ↦ rw (q, g .new) (omega (arith, r .high i (g .here), raised-high D (4611686018427387904 - suc b * RAISE) (λ k o. omega (arith, r .high k o)) i (g .here)))
+      | yes q ↦ rw (q, g .new) (omega (arith, r .high i (g .here), raised-high D (FAR - suc b * RAISE) (λ k o. omega (arith, r .high k o)) i (g .here)))
       | no q ↦ rw (g .rest j here q) (omega (arith, r .high j here))
     ];
   }
 
 -- raises are updates of every flow that the tables hold
-module _ (s : Side) (n : Net) (l m : ℕ) (shaped : Shaped n l m) (launch : ℕ → ℕ) (f : Flow) (good : Good f) (models : Models (launching n launch) f)
+module _ (s : Side) {n : Net} {l m : ℕ} (shaped : Shaped n l m) {launch : ℕ → ℕ} {f : Flow} (good : Good f) (models : Models (launching n launch) f)
     (same : f .nodes ≡ l) where
   -- where a node departs between its launch and what the others lead to, both say the same
   raised-is : (D : ℕ → ℕ) (i : ℕ) → launch i ≤ D i → D i ≤ departN s (launching n launch) D i → raised s n D i ≡ departN s (launching n launch) D i
@@ -145,8 +146,8 @@ module _ (s : Side) (n : Net) (l m : ℕ) (shaped : Shaped n l m) (launch : ℕ 
 
   raised-next : {D : ℕ → ℕ} → Risen s n l launch D → Ranged l D → Updated s f (lowered D) → (i : ℕ) → i < l → lower (raised s n D i) ≡ next s f (lowered D) i
   raised-next {D} h r u i here =
-      let e = depart-models s (launching n launch) f good models D (rw same r) i (rw same here) in
-      let low = risen-launch s n l m shaped h i here in
+      let e = depart-models s good models D (rw same r) i (rw same here) in
+      let low = risen-launch s shaped h i here in
       let high = le-lower (D i) (departN s (launching n launch) D i) (rw e (updated-rises s f good u i (rw same here))) in
       ap lower (raised-is D i low high) ∙ e
 
@@ -176,5 +177,5 @@ module _ (s : Side) (n : Net) (l m : ℕ) (shaped : Shaped n l m) (launch : ℕ 
   passed-round (none {D} h) i here = rw (← models .launch i here) (lower-le (h i (rw same at here)))
   passed-round (pass {k} {D} {E} h g r) j here = pass-round s f good k (lowered D) (lowered E) (passed-round h) (λ i here.
       let j = rw same at here in
-      let e = depart-models s (launching n launch) f good models D (rw same g) i here in
-      rw (← e) (lower-le (step (depart-raised D i (passed-later s n l m shaped h i j)) (r i j)))) j here
+      let e = depart-models s good models D (rw same g) i here in
+      rw (← e) (lower-le (step (depart-raised D i (passed-later s shaped h i j)) (r i j)))) j here

@@ -11,15 +11,15 @@ use lib.Dec.{eqb}
 use lib.ListN.{length, getD, set, length-set}
 use borrow.Author.Tests.{eqb-true, eqb-false, eq-eqb}
 use lib.Seq.{getD-set-same, getD-set-other}
-use Rattle.ticks.specs.Raised.{lower}
+use Rattle.ticks.specs.inside.Raised.{lower}
 use Rattle.ticks.proofs.Raised.{lower-injective}
 use Rattle.flow.specs.Flow.{Flow, Good, late, brings, Least}
 use Rattle.flow.specs.Rank.{Reaches, Lowest, Rank}
 use Rattle.flow.proofs.Rank.{lowest-unique, rank, rank-back}
-use Rattle.tables.specs.Net.{Net, timesOf, brought, Shaped, Ranged}
-use Rattle.tables.specs.Models.{Models}
-use Rattle.tables.specs.Ranks.{ReachesN, GivenBy, NONE, RankedTo, Ranked, next, known, none, Sweeping, firstRank, RanksUpTo}
-use Rattle.tables.proofs.Models.{lowered, brought-lower}
+use Rattle.tables.specs.inside.Net.{Net, timesOf, brought, Shaped, Ranged}
+use Rattle.tables.specs.inside.Models.{Models, lowered}
+use Rattle.tables.specs.inside.Ranks.{ReachesN, GivenBy, NONE, RankedTo, Ranked, next, known, none, Sweeping, firstRank, RanksUpTo}
+use Rattle.tables.proofs.Models.{brought-lower}
 
 or-first : (a b : Bool) → (a || b) ≡ false → a ≡ false
 or-first false b e = refl
@@ -29,7 +29,7 @@ or-second : (a b : Bool) → (a || b) ≡ false → b ≡ false
 or-second false b e = e
 or-second true b e = let z : _≡_ {A = ℕ} 0 1 = cc in let y : ⊥ = omega arith in absurd y
 
-module _ (n : Net) (l m : ℕ) (shaped : Shaped n l m) (D : ℕ → ℕ) where
+module _ {n : Net} {l m : ℕ} (shaped : Shaped n l m) (D : ℕ → ℕ) where
   module _ (R : ℕ → ℕ) (r : ℕ) (few : r < 65535) (all : (j : ℕ) → j < l → RankedTo n D (suc r) j (R j)) (i : ℕ) (here : i < l) where
     -- a rank that is known stays
     pub sweep-known : (R i ≡ NONE → ⊥) → RankedTo n D (suc (suc r)) i (R i)
@@ -68,20 +68,20 @@ module _ (n : Net) (l m : ℕ) (shaped : Shaped n l m) (D : ℕ → ℕ) where
             ]
 
 -- the ranks of a flow that the tables hold
-module _ (n : Net) (l m : ℕ) (shaped : Shaped n l m) (f : Flow) (good : Good f) (models : Models n f) (same : f .nodes ≡ l) (D : ℕ → ℕ)
+module _ {n : Net} {l m : ℕ} (shaped : Shaped n l m) {f : Flow} (good : Good f) (models : Models n f) (same : f .nodes ≡ l) {D : ℕ → ℕ}
     (ranged : Ranged l D) where
   given : (a : ℕ) → a < f .arcs → lower (brought (n .arcs) D a) ≡ brings f (lowered D) a
-  given = brought-lower late n f good models D (rw same ranged)
+  given = brought-lower late n good (models .arcs) D (rw same ranged)
 
   reaches-to : (k i : ℕ) → i < l → ReachesN n D i k → Reaches f (lowered D) i k
   reaches-to zero i h e = ap lower e ∙ models .launch i (rw same h)
   reaches-to (suc k) i h o =
       let a = o .0 in
       let j : i < f .nodes = rw same h in
-      let q : a < f .arcs = omega (arith, o .2, models .within i j) in
-      let s = models .source a q in (
+      let q : a < f .arcs = omega (arith, o .2, models .arcs .into .within i j) in
+      let s = models .arcs .source a q in (
         a,
-        record { here = q; enters = models .inside i a j (o .1) (o .2); holds = sym (models .latch i j) ∙ o .3; carries = sym (given a q) ∙ ap lower (o .4) },
+        record { here = q; enters = models .arcs .into .inside i a j (o .1) (o .2); holds = sym (models .latch i j) ∙ o .3; carries = sym (given a q) ∙ ap lower (o .4) },
         rw s at (reaches-to k (n .arcs .source a) (rw (s, ← same) (good .leaves a q)) (o .5)),
       )
 
@@ -92,8 +92,8 @@ module _ (n : Net) (l m : ℕ) (shaped : Shaped n l m) (f : Flow) (good : Good f
       let t = o .1 in
       let j : i < f .nodes = rw same h in
       let q = t .here in
-      let w = models .outside i a j q (t .enters) in
-      let s = models .source a q in (
+      let w = models .arcs .into .outside i a j q (t .enters) in
+      let s = models .arcs .source a q in (
         a,
         w .0,
         w .1,
@@ -140,7 +140,7 @@ module _ (n : Net) (l m : ℕ) (shaped : Shaped n l m) (f : Flow) (good : Good f
           omega (arith, q .1, same, lowest-unique _ (q .0) (h .level) (q .2) (rank-to j (h .level) here o))
 
 -- one node more in a sweep
-module _ (n : Net) (l m : ℕ) (shaped : Shaped n l m) (D : ℕ → ℕ) (r : ℕ) (few : r < 65534) (before : List ℕ)
+module _ {n : Net} {l m : ℕ} (shaped : Shaped n l m) {D : ℕ → ℕ} {r : ℕ} (few : r < 65534) {before : List ℕ}
     (all : (j : ℕ) → j < l → RankedTo n D (suc r) j (getD before j 0)) where
   pub sweeping-none : Sweeping n D r before before 0 false
   sweeping-none = record {
@@ -151,7 +151,7 @@ module _ (n : Net) (l m : ℕ) (shaped : Shaped n l m) (D : ℕ → ℕ) (r : �
     still = λ e j k. refl;
   }
 
-  module _ (after : List ℕ) (i : ℕ) (found : Bool) (here : i < l) (room : i < length before) (s : Sweeping n D r before after i found) where
+  module _ {after : List ℕ} {i : ℕ} {found : Bool} (s : Sweeping n D r before after i found) (here : i < l) (room : i < length before) where
     -- ranks of r are the same in both tables
     level-back : (j : ℕ) → getD after j 0 ≡ r → getD before j 0 ≡ r
     level-back j e = elim (s .each j) [ inl q ↦ sym q ∙ e | inr q ↦ (let z : ⊥ = omega (arith, q .1, e) in absurd z) ]
@@ -172,13 +172,14 @@ module _ (n : Net) (l m : ℕ) (shaped : Shaped n l m) (D : ℕ → ℕ) (r : �
     }
 
     pub sweeping-more : {b : Bool} {after' : List ℕ} → Ranked n D i r after b after' → Sweeping n D r before after' (i + 1) (found || b)
-    sweeping-more (known d) = stays (sweep-known n l m shaped D (timesOf before) r (omega arith) all i here (λ e. d (own ∙ e))) (found || false) (or-first found false)
-    sweeping-more (none e d) = stays (sweep-none n l m shaped D (timesOf before) r (omega arith) all i here (sym own ∙ e)
+    sweeping-more (known d) = stays (sweep-known shaped D (timesOf before) r (omega arith) all i here (λ e. d (own ∙ e))) (found || false) (or-first found false)
+    sweeping-more (none e d) = stays (sweep-none shaped D (timesOf before) r (omega arith) all i here (sym own ∙ e)
         (λ t g. d t (g .0, g .1, g .2, g .3, level-on (n .arcs .source (g .0)) (g .4)))) (found || false) (or-first found false)
     sweeping-more (next e t g) = record {
       long = length-set after i (suc r) ∙ s .long;
       done = λ j k. elim (ℕ-discrete j i) [
-        | yes q ↦ rw (q, spot) (sweep-new n l m shaped D (timesOf before) r (omega arith) all i here (sym own ∙ e) t (g .0, g .1, g .2, g .3, level-back (n .arcs .source (g .0)) (g .4)))
+        | yes q ↦ rw (q, spot) (sweep-new shaped D (timesOf before) r (omega arith) all i here (sym own ∙ e) t
+            (g .0, g .1, g .2, g .3, level-back (n .arcs .source (g .0)) (g .4)))
         | no q ↦ rw (getD-set-other after i j (suc r) 0 q) (s .done j (omega arith))
       ];
       rest = λ j k. getD-set-other after i j (suc r) 0 (λ q. omega arith) ∙ s .rest j (omega arith);

@@ -12,9 +12,9 @@ use lib.ListN.{length, set}
 use lib.Seq.{getD-set-same, getD-set-other}
 use borrow.Author.Tests.{eqb-false, eq-eqb, ne-eqb}
 use Rattle.flow.specs.Flow.{Side}
-use Rattle.tables.specs.Net.{Net, timesOf, brought, degree, arrivalN, Shaped, Ranged}
-use Rattle.tables.specs.Raise.{raised, Raise}
-use Rattle.tables.specs.Parents.{ParentN, Parented, Course}
+use Rattle.tables.specs.inside.Net.{Net, timesOf, brought, degree, arrivalN, Shaped, Ranged}
+use Rattle.tables.specs.inside.Raise.{raised, Raise}
+use Rattle.tables.specs.inside.Parents.{ParentN, Parented, Course}
 
 pub course-none : (n : Net) (l : ℕ) (D P : ℕ → ℕ) → Course n l D D P
 course-none n l D P = record { raises = 0; stamps = λ i. 0; parented = record { each = λ i k. inl refl; stamps = λ i k. omega arith } }
@@ -33,7 +33,7 @@ rising s n D i h = go (n .latch i) refl (eqb (degree n i) 0) refl h
     go true e true q h = let k : ⊥ = omega arith in absurd k
     go true e false q h = (e, omega (arith, eqb-false (degree n i) 0 q), omega arith)
 
-module _ (s : Side) (n : Net) (l m : ℕ) (shaped : Shaped n l m) (i : ℕ) (D E T : ℕ → ℕ) (p : ℕ) (parents : List ℕ) (a : ℕ) (r : Raise s n l i D E)
+module _ {s : Side} {n : Net} {l m : ℕ} (shaped : Shaped n l m) {i : ℕ} {D E : ℕ → ℕ} (T : ℕ → ℕ) (p : ℕ) (parents : List ℕ) (a : ℕ) (r : Raise s n l i D E)
     (rose : D i < raised s n D i) (above : n .first i ≤ a) (below : a < n .first (i + 1))
     (gave : brought (n .arcs) D a ≡ arrivalN s n D i) (ranged : Ranged l D) (room : i < length parents) where
   -- the new stamps

@@ -5,7 +5,7 @@ use mathlib.Core.List.{List, [], _∷_, _++_}
 use Prim.Native.Nat.{ℕ, zero, suc, _+_, _<_, _≤_}
 use native.Mathlib.Omega.{arith}
 use lib.ListN.{length, length-append}
-use Rattle.ticks.specs.Raised.{lower}
+use Rattle.ticks.specs.inside.Raised.{lower}
 use Rattle.ticks.proofs.Order.{≤ℤ-antisym}
 use Rattle.ticks.proofs.Raised.{lower-le, lower-injective}
 use Rattle.flow.specs.Flow.{Flow, Good, late, at, brings, arrival, Fits}
@@ -14,10 +14,10 @@ use Rattle.flow.specs.Path.{Brought, Last, Back, PathTo}
 use Rattle.flow.proofs.Arrival.{arrival-by}
 use Rattle.flow.proofs.Rank.{lowest-unique, rank-back, rank-above}
 use Rattle.flow.proofs.Walks.{fits-holds}
-use Rattle.tables.specs.Net.{Arcs, Net, brought, Ranged}
-use Rattle.tables.specs.Models.{Models}
-use Rattle.tables.specs.Trail.{Via, Trail, Stepping}
-use Rattle.tables.proofs.Models.{lowered, brought-lower}
+use Rattle.tables.specs.inside.Net.{Arcs, Net, brought, Ranged}
+use Rattle.tables.specs.inside.Models.{Models, lowered}
+use Rattle.tables.specs.inside.Trail.{Via, Trail, Stepping}
+use Rattle.tables.proofs.Models.{brought-lower}
 
 -- a trail has as many arcs as it is said to have
 pub trail-length : (g : Arcs) (first D R : ℕ → ℕ) (d i s : ℕ) (p : List ℕ) → Trail g first D R s d p i → length p ≡ d
@@ -25,24 +25,24 @@ trail-length g first D R zero i s p h = rw (h .1)
 trail-length g first D R (suc d) i s p h =
     rw (h .4) (length-append (h .1) (h .0 ∷ []) ∙ omega (arith, trail-length g first D R d (g .source (h .0)) s (h .1) (h .3)))
 
-module _ (n : Net) (f : Flow) (good : Good f) (models : Models n f) (D R : ℕ → ℕ) (ranged : Ranged (f .nodes) D)
+module _ {n : Net} {f : Flow} (good : Good f) (models : Models n f) {D : ℕ → ℕ} (R : ℕ → ℕ) (ranged : Ranged (f .nodes) D)
     (fits : Fits late f (lowered D)) (ranks : (i : ℕ) → i < f .nodes → Rank f (lowered D) i (R i)) where
   lowers-to : (a : ℕ) → a < f .arcs → lower (brought (n .arcs) D a) ≡ brings f (lowered D) a
-  lowers-to = brought-lower late n f good models D ranged
+  lowers-to = brought-lower late n good (models .arcs) D ranged
 
   -- the rank in the table is the rank
   rank-is : (a r : ℕ) → a < f .arcs → Rank f (lowered D) (f .source a) r → R (n .arcs .source a) ≡ r
-  rank-is a r l h = rw (models .source a l) (lowest-unique _ _ r (ranks (f .source a) (good .leaves a l)) h)
+  rank-is a r l h = rw (models .arcs .source a l) (lowest-unique _ _ r (ranks (f .source a) (good .leaves a l)) h)
 
   module _ (i : ℕ) (here : i < f .nodes) (a : ℕ) (via : Via (n .arcs) (n .first) D R i a) where
     inside : a < f .arcs
-    inside = omega (arith, via .below, models .within i here)
+    inside = omega (arith, via .below, models .arcs .into .within i here)
 
     enters : f .target a ≡ i
-    enters = models .inside i a here (via .above) (via .below)
+    enters = models .arcs .into .inside i a here (via .above) (via .below)
 
     latest : (b : ℕ) → b < f .arcs → f .target b ≡ i → brought (n .arcs) D b ≤ brought (n .arcs) D a
-    latest b l e = let k = models .outside i b here l e in via .latest b (k .0) (k .1)
+    latest b l e = let k = models .arcs .into .outside i b here l e in via .latest b (k .0) (k .1)
 
     -- an arc that brings as much: its time on the tables
     level : (r b : ℕ) → Brought f (lowered D) i (brings f (lowered D) a) r b → brought (n .arcs) D b ≡ brought (n .arcs) D a
@@ -53,14 +53,14 @@ module _ (n : Net) (f : Flow) (good : Good f) (models : Models n f) (D R : ℕ �
       here = inside;
       enters = enters;
       gives = refl;
-      from = rw (models .source a inside) (ranks (f .source a) (good .leaves a inside));
+      from = rw (models .arcs .source a inside) (ranks (f .source a) (good .leaves a inside));
     }
 
     via-lowest : Lowest (Brought f (lowered D) i (brings f (lowered D) a) (R (n .arcs .source a))) a
     via-lowest = record {
       holds = via-brought;
       lowest = λ b l h.
-          let k = models .outside i b here (h .here) (h .enters) in
+          let k = models .arcs .into .outside i b here (h .here) (h .enters) in
           omega (arith, rank-is b (R (n .arcs .source a)) (h .here) (h .from), via .first b (k .0) l (level (R (n .arcs .source a)) b h));
     }
 
@@ -73,7 +73,7 @@ module _ (n : Net) (f : Flow) (good : Good f) (models : Models n f) (D R : ℕ �
         holds = (a, via-brought);
         lowest = λ r l h.
             let b = h .0 in
-            let k = models .outside i b here (h .1 .here) (h .1 .enters) in
+            let k = models .arcs .into .outside i b here (h .1 .here) (h .1 .enters) in
             omega (arith, rank-is b r (h .1 .here) (h .1 .from), via .least b (k .0) (k .1) (level r b (h .1)));
       };
       lowest = via-lowest;
@@ -100,7 +100,7 @@ module _ (n : Net) (f : Flow) (good : Good f) (models : Models n f) (D R : ℕ �
       via-lowers =
           let k = rank-back f (lowered D) i r rank in
           let t = k .1 in
-          let o = models .outside i (k .0) here (t .here) (t .enters) in
+          let o = models .arcs .into .outside i (k .0) here (t .here) (t .enters) in
           let e = lower-injective (brought (n .arcs) D (k .0)) (brought (n .arcs) D a) (lowers-to (k .0) (t .here) ∙ t .carries ∙ sym departs ∙ sym (lowers-to a inside)) in
           omega (
             arith,
@@ -116,7 +116,7 @@ module _ (n : Net) (f : Flow) (good : Good f) (models : Models n f) (D R : ℕ �
   stepping = record {
     entered = λ i r l e.
         let t = rank-back f (lowered D) i r (rw e at (ranks i l)) in
-        let k = models .outside i (t .0) l (t .1 .here) (t .1 .enters) in
+        let k = models .arcs .into .outside i (t .0) l (t .1 .here) (t .1 .enters) in
         omega (arith, k .0, k .1);
     lowers = λ i r a l e via. via-lowers i l a via r e;
   }
@@ -126,7 +126,7 @@ module _ (n : Net) (f : Flow) (good : Good f) (models : Models n f) (D R : ℕ �
   trail-back (suc r) i s p l e h =
       let a = h .0 in
       let m = inside i l a (h .2) in
-      let x = models .source a m in (
+      let x = models .arcs .source a m in (
         a,
         h .1,
         rw e at (ranks i l),
@@ -136,11 +136,11 @@ module _ (n : Net) (f : Flow) (good : Good f) (models : Models n f) (D R : ℕ �
       )
 
   -- the nearest arc into i, behind a trail to its source that is as long as the source's rank, makes the path
-  pub trail-path : (i s a : ℕ) (q : List ℕ) → i < f .nodes → Via (n .arcs) (n .first) D R i a →
+  pub trail-path : {i s a : ℕ} (q : List ℕ) → i < f .nodes → Via (n .arcs) (n .first) D R i a →
       Trail (n .arcs) (n .first) D R s (R (n .arcs .source a)) q (n .arcs .source a) → PathTo f (lowered D) i s (q ++ (a ∷ []))
-  trail-path i s a q l via h =
+  trail-path {i} {s} {a} q l via h =
       let m = inside i l a via in
-      let x = models .source a m in
+      let x = models .arcs .source a m in
       record {
         rank = R (f .source a);
         last = a;

@@ -8,9 +8,9 @@ use lib.Dec.{ltb}
 use lib.ListN.{getD, set}
 use borrow.Author.Tests.{eq-eqb, ne-eqb, ltb-true, ltb-false}
 use Rattle.flow.specs.Flow.{Side}
-use Rattle.tables.specs.Net.{Net, timesOf, brought, best, degree, arrivalN, Ranged}
-use Rattle.tables.specs.Raise.{raised, Given, Brings, Lifted, Tried, stays, rises, Sweepable}
-use Rattle.tables.proofs.Best.{best-given}
+use Rattle.tables.specs.inside.Net.{Net, timesOf, brought, best, degree, arrivalN, Ranged}
+use Rattle.tables.specs.inside.Raise.{raised, Given, Brings, Lifted, Tried, stays, rises, Sweepable}
+use Rattle.tables.proofs.WalksOverArcs.{best-given}
 use Rattle.tables.proofs.Raising.{raised-above}
 
 module _ (s : Side) (n : Net) (D : ℕ → ℕ) (i : ℕ) where
@@ -39,7 +39,9 @@ module _ (s : Side) (n : Net) (i : ℕ) (departs parents : List ℕ) where
     pub stored : departs' ≡ set departs i (raised s n (timesOf departs) i)
     pub noted : parents' ≡ set parents i arc
 
-  pub tried-rises : {b : Bool} {departs' parents' : List ℕ} → Tried s n i departs parents b departs' parents' → b ≡ true → Rose departs' parents'
+module _ {s : Side} {n : Net} {i : ℕ} {departs parents : List ℕ} where
+  pub tried-rises : {b : Bool} {departs' parents' : List ℕ} → Tried s n i departs parents b departs' parents' → b ≡ true →
+      Rose s n i departs parents departs' parents'
   tried-rises (stays e) q = let z : _≡_ {A = ℕ} 0 1 = cc in let k : ⊥ = omega arith in absurd k
   tried-rises (rises a up d) q = record { arc = a; up = up; brings = d; stored = refl; noted = refl }
 
@@ -49,9 +51,9 @@ module _ (s : Side) (n : Net) (i : ℕ) (departs parents : List ℕ) where
   tried-stays (rises a up d) q = let z : _≡_ {A = ℕ} 0 1 = cc in let k : ⊥ = omega arith in absurd k
 
 -- an arrival is brought by an arc
-pub arrival-given : (s : Side) (n : Net) (l : ℕ) → Sweepable n l → (D : ℕ → ℕ) → Ranged l D → (i : ℕ) → i < l → n .first i < n .first (i + 1) →
+pub arrival-given : (s : Side) {n : Net} {l : ℕ} → Sweepable n l → {D : ℕ → ℕ} → Ranged l D → (i : ℕ) → i < l → n .first i < n .first (i + 1) →
     Given (n .arcs) D (n .first i) (n .first (i + 1)) (arrivalN s n D i)
-arrival-given s n l t D ranged i here some =
+arrival-given s {n} t {D} ranged i here some =
     let k = degree n i - 1 in
     let e : degree n i ≡ suc k = omega arith in
     let o = best-given s (n .arcs) D (n .first i) k (λ b low high.
@@ -60,10 +62,10 @@ arrival-given s n l t D ranged i here some =
     (o .0, o .1, omega (arith, o .2), o .3 ∙ ap (best s (n .arcs) D (n .first i)) (sym e))
 
 -- what a node is raised to is stored
-pub lifted-by : (s : Side) (n : Net) (l : ℕ) → Sweepable n l → (i : ℕ) → i < l → (before : List ℕ) (t : ℕ) → t ≡ raised s n (timesOf before) i →
+pub lifted-by : {s : Side} {n : Net} {l : ℕ} → Sweepable n l → {i : ℕ} → i < l → {before : List ℕ} {t : ℕ} → t ≡ raised s n (timesOf before) i →
     Lifted s n i before (ltb (getD before i 0) t) (set before i t)
-lifted-by s n l w i here before t e =
-    let low = raised-above s n l (w .arcs) (w .shaped) (timesOf before) i here in
+lifted-by {s} w {i} here {before} {t} e =
+    let low = raised-above s (w .shaped) (timesOf before) i here in
     record {
       stored = rw e;
       rises = λ q. rw (← e) (ltb-true (getD before i 0) t q);

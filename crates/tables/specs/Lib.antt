@@ -1,8 +1,1 @@
-pub mod Net
-pub mod Models
-pub mod Trail
-pub mod Listing
-pub mod Raise
-pub mod Parents
-pub mod Passing
-pub mod Ranks
+pub mod inside

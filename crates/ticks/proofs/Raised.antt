@@ -5,7 +5,7 @@ use Prim.Native.Nat.{ℕ, _+_, _-_, _≤_, _<_, max, min}
 use lib.IntN.{pos, _+ℤ_, _-ℤ_, subℕ}
 use lib.Signed.{_≤ℤ_, _<ℤ_}
 use Rattle.ticks.specs.Extremes.{maxℤ, minℤ}
-use Rattle.ticks.specs.Raised.{RAISE, lower}
+use Rattle.ticks.specs.inside.Raised.{RAISE, lower}
 use Rattle.ticks.proofs.Ints.{ints, up, down, apart, sum, diff}
 use Rattle.ticks.proofs.Extremes.{greater, lesser}
 

@@ -26,7 +26,7 @@ raised z = worded z +ℤ pos 1
 abbrev pub turned : ℤ → ℤ
 turned z = pos 0 -ℤ worded (raised z)
 
-pub record Steps (z : ℤ) : Type 0 where
+pub record NegationSteps (z : ℤ) : Type 0 where
   pub raises : SFits w64 (raised z)
   pub turns : SFits w64 (turned z)
   pub above : T (nonNeg (worded (turned z)))
@@ -41,7 +41,7 @@ module _ (z r : ℤ) (k : ℕ) (e : raised z ≡ r) (f : SFits w64 r) (d : (pos 
   found : worded (turned z) ≡ pos k
   found = rw turned-is (word-is (pos k) (record { sfits = l }))
 
-  from : k + 1 ≡ natAbs z → Steps z
+  from : k + 1 ≡ natAbs z → NegationSteps z
   from h = record {
     raises = rw e f;
     turns = rw turned-is (record { sfits = l });
@@ -52,7 +52,7 @@ module _ (z r : ℤ) (k : ℕ) (e : raised z ≡ r) (f : SFits w64 r) (d : (pos 
   }
 
 -- by whether the number is -1, which is raised to zero, or lies below
-pub steps : (z : ℤ) → z <ℤ pos 0 → SFits w64 z → Steps z
+pub steps : (z : ℤ) → z <ℤ pos 0 → SFits w64 z → NegationSteps z
 steps (pos n) h f = let k : ⊥ = omega ints in absurd k
 steps (negsuc zero) h f = from (negsuc 0) (pos 0) 0 refl (omega arith) refl (omega arith) refl
 steps (negsuc (suc m)) h f =

@@ -8,20 +8,21 @@ use lib.ListN.{getD}
 use Rattle.ticks.proofs.Ints.{ints, diff, apart}
 use Rattle.image.specs.Valid.{Valid, imageIn}
 use Rattle.image.specs.Records.{arcAt}
-use Rattle.image.specs.declared.kind.Image.{Image}
+use Rattle.image.specs.declared.header.Image.{Image}
 use Rattle.image.specs.declared.records.Arc.{Arc}
 use Rattle.flow.specs.Flow.{Side, late, early}
 use Rattle.circuit.specs.Circuit.{Circuit, circuitOf}
 use Rattle.circuit.specs.Clock.{shift, across, delay, weight}
 use Rattle.circuit.proofs.Sound.{sound}
 use Rattle.circuit.proofs.Ranges.{across-range}
-use Rattle.timing.specs.Loaded.{Noted, Leads, Led}
-use Rattle.timing.proofs.Read.{OfArc, counts, of-arc, most-phases}
+use Rattle.timing.specs.inside.Loaded.{Noted, LeadOf, LoadedArc}
+use Rattle.timing.proofs.RecordsRead.{OfArc, counts, of-arc, most-phases}
 use Rattle.timing.proofs.Shifts.{Shifting, shifting}
+use Rattle.tables.specs.inside.Sizes.{NODES, PHASES}
 
 -- a delay with the cycle added and the shift x taken away
 leads : (s : Side) (c : Circuit) (a d x : ℕ) → d ≡ delay s c a → d ≤ 2000000000 → c .cycle ≤ 1000000000 → pos x ≡ across c a → x ≤ c .cycle →
-    Leads s c a (d + (c .cycle - x))
+    LeadOf s c a (d + (c .cycle - x))
 unfolding weight
 leads s c a d x e h k w q = record {
   weight = rw (← w, ← e) (omega (ints, apart (d + (c .cycle - x)) (c .cycle), diff (pos d) (pos x)));
@@ -30,15 +31,15 @@ leads s c a d x e h k w q = record {
 
 -- what is known once an arc is read: it leads from p to q, which close at x and y, and no sum is large
 pub record Ends (c : Circuit) (cycle : ℕ) (r : Arc) (p q x y low high : ℕ) : Type 0 where
-  pub from : r .from < 512
-  pub to : r .to < 512
-  pub phases : (p < 16) × (q < 16)
+  pub from : r .from < NODES
+  pub to : r .to < NODES
+  pub phases : (p < PHASES) × (q < PHASES)
   pub shifts : Shifting c cycle p q x y
   pub late : high + r .greatest ≤ 2000000000
   pub early : low + r .least ≤ 2000000000
 
-module _ (bytes : List ℕ) (v : Valid bytes) (image : Image) (same : image ≡ imageIn bytes) (a : ℕ) (l : a < image .arcs)
-    (r : Arc) (of : r ≡ arcAt bytes (image .layout) a) (closings phases leasts greatests : List ℕ)
+module _ {bytes : List ℕ} (v : Valid bytes) {image : Image} (same : image ≡ imageIn bytes) {a : ℕ} (l : a < image .arcs)
+    {r : Arc} (of : r ≡ arcAt bytes (image .layout) a) {closings phases leasts greatests : List ℕ}
     (n : Noted (circuitOf bytes) closings phases leasts greatests) where
   here : a < circuitOf bytes .arcs
   here = omega (arith, counts bytes image same .arcs)
@@ -83,7 +84,7 @@ module _ (bytes : List ℕ) (v : Valid bytes) (image : Image) (same : image ≡ 
   pub target-known : r .to ≡ circuitOf bytes .to a
   target-known = arc-is .to
 
-  module _ (x : ℕ) (shifts : pos x ≡ shift (circuitOf bytes) (getD phases (r .from) 0) (getD phases (r .to) 0)) where
+  module _ {x : ℕ} (shifts : pos x ≡ shift (circuitOf bytes) (getD phases (r .from) 0) (getD phases (r .to) 0)) where
     shift-is : pos x ≡ across (circuitOf bytes) a
     shift-is = rw (left-is, entered-is) at shifts
 
@@ -92,7 +93,7 @@ module _ (bytes : List ℕ) (v : Valid bytes) (image : Image) (same : image ≡ 
         let n = counts bytes image same .cycle in
         (omega (ints, shift-is, across-range (circuitOf bytes) (sound bytes v) a here .high), omega (arith, sound bytes v .cycle))
 
-    pub led-known : Led (circuitOf bytes) a (r .from) (getD greatests (r .from) 0 + r .greatest + (image .cycle - x))
+    pub led-known : LoadedArc (circuitOf bytes) a (r .from) (getD greatests (r .from) 0 + r .greatest + (image .cycle - x))
         (getD leasts (r .from) 0 + r .least + (image .cycle - x))
     unfolding delay
     led-known =

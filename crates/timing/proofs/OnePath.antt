@@ -17,10 +17,8 @@ use Rattle.image.proofs.Validity.{accepts, accepted-is}
 use Rattle.flow.specs.Flow.{Good, late, Least}
 use Rattle.flow.specs.Bounds.{Unentered}
 use Rattle.flow.specs.Walk.{GrowingRing}
-use Rattle.flow.specs.Rank.{Lowest}
 use Rattle.flow.specs.Path.{PathTo}
-use Rattle.flow.proofs.Below.{below-suc, some-or-all}
-use Rattle.flow.proofs.Rank.{lowest-unique}
+use Rattle.flow.proofs.Pigeonhole.{some-or-all}
 use Rattle.flow.proofs.Walks.{fits-calm}
 use Rattle.flow.proofs.Path.{path-walk}
 use Rattle.flow.proofs.HasPath.{entered-path}
@@ -29,9 +27,15 @@ use Rattle.circuit.specs.Circuit.{circuitOf}
 use Rattle.circuit.specs.Clock.{flow}
 use Rattle.circuit.proofs.Sound.{Sound, sound, good}
 use Rattle.circuit.proofs.Solved.{decided, worked, worked-least}
-use Rattle.timing.specs.declared.ask.Way.{Way}
-use Rattle.timing.specs.declared.ask.Way.the-variants.{Refused, Found}
-use Rattle.timing.specs.Paths.{Asked, PathCall, refused, few-arcs, no-such, unentered, growing, found}
+use Rattle.timing.specs.declared.path_call.Way.{Way}
+use Rattle.timing.specs.declared.path_call.Way.the-variants.{Refused, Found}
+use Rattle.timing.specs.PathPromise.{Asked, PathCall, refused, few-arcs, no-such, unentered, growing, found}
+use Rattle.timing.proofs.FirstYes.{Past, start, on, FirstYes, yes-at, one-outcome}
+
+-- the answer to a refused image
+abbrev refusal : Checked → Way
+refusal (check.Refused rule culprit) = Refused rule culprit
+refusal (check.Good image) = Refused 0 0
 
 module _ (bytes : List ℕ) (i : ℕ) (arcs : List ℕ) where
   -- the questions, in order; the last is always answered with yes
@@ -43,95 +47,67 @@ module _ (bytes : List ℕ) (i : ℕ) (arcs : List ℕ) where
   Question (suc (suc (suc (suc zero)))) = GrowingRing (flow late (circuitOf bytes))
   Question (suc (suc (suc (suc (suc k))))) = Unit {0}
 
+  -- this answer, and nothing written
+  abbrev Only : Way → Way → List ℕ → Type 0
+  Only x X A = (X ≡ x) × (A ≡ arcs)
+
   -- what is left open in each case
-  abbrev Left : ℕ → Way → List ℕ → Type 0
-  Left zero X A = (rule : ℕ) × (culprit : ℕ) × (checkOf bytes ≡ check.Refused rule culprit) × (X ≡ Refused rule culprit) × (A ≡ arcs)
-  Left (suc zero) X A = (X ≡ Refused 11 0) × (A ≡ arcs)
-  Left (suc (suc zero)) X A = (X ≡ Refused 12 0) × (A ≡ arcs)
-  Left (suc (suc (suc zero))) X A = (X ≡ Refused 13 0) × (A ≡ arcs)
-  Left (suc (suc (suc (suc zero)))) X A = (X ≡ Refused 14 0) × (A ≡ arcs)
-  Left (suc (suc (suc (suc (suc k))))) X A = (D : ℕ → ℤ) × (s : ℕ) × (p : List ℕ) × Good (flow late (circuitOf bytes))
+  abbrev Left : Way → List ℕ → ℕ → Type 0
+  Left X A zero = Only (refusal (checkOf bytes)) X A
+  Left X A (suc zero) = Only (Refused 11 0) X A
+  Left X A (suc (suc zero)) = Only (Refused 12 0) X A
+  Left X A (suc (suc (suc zero))) = Only (Refused 13 0) X A
+  Left X A (suc (suc (suc (suc zero)))) = Only (Refused 14 0) X A
+  Left X A (suc (suc (suc (suc (suc k))))) = (D : ℕ → ℤ) × (s : ℕ) × (p : List ℕ) × Good (flow late (circuitOf bytes))
       × Least late (flow late (circuitOf bytes)) D × PathTo (flow late (circuitOf bytes)) D i s p
       × (X ≡ Found s (length p)) × (A ≡ p ++ drop (length p) arcs)
 
-  pub record View (X : Way) (A : List ℕ) : Type 0 where
-    pub case : ℕ
-    pub first : Lowest Question case
-    pub left : Left case X A
+  past-image : checkOf bytes ≡ check.Good (imageIn bytes) → Past Question 1
+  past-image ok = on Question 0 (start Question) (λ q. let e = q .2 in let z : _≡_ {A = ℕ} 0 1 = cc in omega arith)
 
-  -- the questions before k are answered with no
-  abbrev Past : ℕ → Type 0
-  Past k = (m : ℕ) → m < k → Question m → ⊥
+  past-room : checkOf bytes ≡ check.Good (imageIn bytes) → circuitOf bytes .synchronizers ≤ length arcs → Past Question 2
+  past-room ok room = on Question 1 (past-image ok) (λ q. omega arith)
 
-  on : (k : ℕ) → Past k → (Question k → ⊥) → Past (suc k)
-  on = below-suc (λ m. Question m → ⊥)
+  past-number : Asked bytes i arcs → Past Question 3
+  past-number a = on Question 2 (past-room (a .good) (a .arcs-fit)) (λ q. omega (arith, a .inside))
 
-  past-image : checkOf bytes ≡ check.Good (imageIn bytes) → Past 1
-  past-image ok = on 0 (λ m l q. omega arith) (λ q. let e = q .2 in let z : _≡_ {A = ℕ} 0 1 = cc in omega arith)
-
-  past-room : checkOf bytes ≡ check.Good (imageIn bytes) → circuitOf bytes .synchronizers ≤ length arcs → Past 2
-  past-room ok room = on 1 (past-image ok) (λ q. omega arith)
-
-  past-number : Asked bytes i arcs → Past 3
-  past-number a = on 2 (past-room (a .good) (a .arcs-fit)) (λ q. omega (arith, a .inside))
-
-  past-entry : (a : ℕ) → Asked bytes i arcs → a < circuitOf bytes .arcs → circuitOf bytes .to a ≡ i → Past 4
-  past-entry a asked l e = on 3 (past-number asked) (λ q. q a l e)
+  past-entry : (a : ℕ) → Asked bytes i arcs → a < circuitOf bytes .arcs → circuitOf bytes .to a ≡ i → Past Question 4
+  past-entry a asked l e = on Question 3 (past-number asked) (λ q. q a l e)
 
   held : checkOf bytes ≡ check.Good (imageIn bytes) → Sound (circuitOf bytes)
   held ok = sound bytes (accepts bytes .1 ok)
 
-  whole : checkOf bytes ≡ check.Good (imageIn bytes) → Good (flow late (circuitOf bytes))
-  whole ok = good late (circuitOf bytes) (held ok)
-
-  view : {X : Way} {A : List ℕ} → PathCall bytes i arcs X A → View X A
-  view (refused {rule} {culprit} e) = record {
-    case = 0;
-    first = record { holds = (rule, culprit, e); lowest = λ m l q. omega arith };
-    left = (rule, culprit, e, refl, refl);
-  }
-  view (few-arcs ok h) = record { case = 1; first = record { holds = h; lowest = past-image ok }; left = (refl, refl) }
-  view (no-such ok room h) = record { case = 2; first = record { holds = h; lowest = past-room ok room }; left = (refl, refl) }
-  view (unentered asked h) = record { case = 3; first = record { holds = h; lowest = past-number asked }; left = (refl, refl) }
-  view (growing a asked l e ring) = record {
-    case = 4;
-    first = record { holds = ring; lowest = past-entry a asked l e };
-    left = (refl, refl);
-  }
-  view (found D s p asked least path) = record {
-    case = 5;
-    first = record { holds = tt; lowest = past };
-    left = (D, s, p, whole (asked .good), least, path, refl, refl);
-  }
-    where
-      past : Past 5
-      past =
-          let w = path-walk (flow late (circuitOf bytes)) D i s p path in
-          on 4 (past-entry (path .last) asked (w .1) (w .2)) (fits-calm (flow late (circuitOf bytes)) (whole (asked .good)) D (least .fits))
+  case-of : {X : Way} {A : List ℕ} → PathCall bytes i arcs X A → FirstYes Question (Left X A)
+  case-of (refused {rule} {culprit} e) = yes-at Question 0 (start Question) (rule, culprit, e) (rw e, refl)
+  case-of (few-arcs ok h) = yes-at Question 1 (past-image ok) h (refl, refl)
+  case-of (no-such ok room h) = yes-at Question 2 (past-room ok room) h (refl, refl)
+  case-of (unentered asked h) = yes-at Question 3 (past-number asked) h (refl, refl)
+  case-of (growing a asked l e ring) = yes-at Question 4 (past-entry a asked l e) ring (refl, refl)
+  case-of (found D s p asked least path) =
+      let f = flow late (circuitOf bytes) in
+      let v = good late (circuitOf bytes) (held (asked .good)) in
+      let w = path-walk f D i s p path in
+      let past = on Question 4 (past-entry (path .last) asked (w .1) (w .2)) (fits-calm f v D (least .fits)) in
+      yes-at Question 5 past tt (D, s, p, v, least, path, refl, refl)
 
   -- within one case
-  alike : (k : ℕ) {X Y : Way} {A B : List ℕ} → Left k X A → Left k Y B → (X ≡ Y) × (A ≡ B)
-  alike zero h k =
-      let e = h .2 in
-      let d = k .2 in
-      let r : h .0 ≡ k .0 = cc in
-      let c : h .1 ≡ k .1 = cc in
-      (h .3 ∙ rw (r, c) (sym (k .3)), h .4 ∙ sym (k .4))
-  alike (suc zero) h k = (h .0 ∙ sym (k .0), h .1 ∙ sym (k .1))
-  alike (suc (suc zero)) h k = (h .0 ∙ sym (k .0), h .1 ∙ sym (k .1))
-  alike (suc (suc (suc zero))) h k = (h .0 ∙ sym (k .0), h .1 ∙ sym (k .1))
-  alike (suc (suc (suc (suc zero)))) h k = (h .0 ∙ sym (k .0), h .1 ∙ sym (k .1))
-  alike (suc (suc (suc (suc (suc n))))) h k =
-      let e = path-same (flow late (circuitOf bytes)) (h .3) (h .0) (k .0) (h .4) (k .4) i (h .1) (k .1) (h .2) (k .2) (h .5) (k .5) in
-      (h .6 ∙ rw (e .0, e .1) (sym (k .6)), h .7 ∙ rw (e .1) (sym (k .7)))
+  module _ {X Y : Way} {A B : List ℕ} where
+    same : {x : Way} → Only x X A → Only x Y B → (X ≡ Y) × (A ≡ B)
+    same h k = (h .0 ∙ sym (k .0), h .1 ∙ sym (k .1))
 
-  -- two outcomes that keep the promise are the same: the answer, and the buffer as it is left
-  pub path-only : {X Y : Way} {A B : List ℕ} → PathCall bytes i arcs X A → PathCall bytes i arcs Y B → (X ≡ Y) × (A ≡ B)
-  path-only x y =
-      let p = view x in
-      let q = view y in
-      let e = lowest-unique Question (p .case) (q .case) (p .first) (q .first) in
-      alike (q .case) (rw e at (p .left)) (q .left)
+    alike : (k : ℕ) → Left X A k → Left Y B k → (X ≡ Y) × (A ≡ B)
+    alike zero h k = same h k
+    alike (suc zero) h k = same h k
+    alike (suc (suc zero)) h k = same h k
+    alike (suc (suc (suc zero))) h k = same h k
+    alike (suc (suc (suc (suc zero)))) h k = same h k
+    alike (suc (suc (suc (suc (suc n))))) h k =
+        let e = path-same (flow late (circuitOf bytes)) (h .3) (h .0) (k .0) (h .4) (k .4) i (h .1) (k .1) (h .2) (k .2) (h .5) (k .5) in
+        (h .6 ∙ rw (e .0, e .1) (sym (k .6)), h .7 ∙ rw (e .1) (sym (k .7)))
+
+    -- two outcomes that keep the promise are the same: the answer, and the buffer as it is left
+    pub path-only : PathCall bytes i arcs X A → PathCall bytes i arcs Y B → (X ≡ Y) × (A ≡ B)
+    path-only x y = one-outcome Question alike (case-of x) (case-of y)
 
   -- some outcome keeps the promise: each question is decided
   abbrev Answered : Type 0

@@ -9,13 +9,13 @@ use mir.Syntax.{w64}
 use mir.Val.{toZ, ofZ}
 use mir.ValLaws.{toZ-ofZ}
 use borrow.Author.Tests.{lt-ltb, le-ltb}
-use Rattle.ticks.specs.Raised.{RAISE, lower}
+use Rattle.ticks.specs.inside.Raised.{RAISE, lower, SIGNED}
 use Rattle.ticks.proofs.Ints.{ints, up, down, apart, diff}
 use Rattle.ticks.proofs.Raised.{span}
-use Rattle.timing.specs.Results.{setupBy, holdBy}
+use Rattle.timing.specs.inside.Results.{setupBy, holdBy}
 
 -- a signed number that a call gave comes back out of its word
-pub out-of-word : (z : ℤ) → mag z < 9223372036854775808 → toZ w64 (ofZ w64 z) ≡ z
+pub out-of-word : (z : ℤ) → mag z < SIGNED → toZ w64 (ofZ w64 z) ≡ z
 out-of-word z h = toZ-ofZ w64 z (record { sfits = h })
 
 pub time-is : (t : ℕ) → subℕ t RAISE ≡ lower t

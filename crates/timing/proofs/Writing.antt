@@ -9,37 +9,19 @@ use lib.ListN.{length, drop}
 use lib.Seq.{sets}
 use Rattle.flow.specs.Flow.{late, early}
 use Rattle.image.specs.Records.{synchronizerAt}
-use Rattle.image.specs.Valid.{Valid, imageIn}
-use Rattle.image.specs.declared.kind.Image.{Image}
+use Rattle.image.specs.declared.header.Image.{Image}
 use Rattle.image.specs.declared.records.Synchronizer.{Synchronizer}
 use Rattle.circuit.specs.Circuit.{Circuit, circuitOf}
 use Rattle.circuit.specs.Clock.{flow}
 use Rattle.circuit.specs.Times.{arrives, setupSlack, holdSlack, missed, count, six, results}
 use Rattle.circuit.proofs.Sound.{sound, good}
-use Rattle.tables.specs.Net.{arcsOf, timesOf, netOf, Ranged}
-use Rattle.tables.specs.Models.{Models}
-use Rattle.tables.proofs.Models.{lowered}
+use Rattle.tables.specs.inside.Net.{arcsOf, timesOf, Ranged}
+use Rattle.tables.specs.inside.Models.{lowered}
 use Rattle.timing.specs.declared.results.Arrivals.{Arrivals}
 use Rattle.timing.specs.declared.results.Missed.{Missed}
-use Rattle.timing.specs.Results.{arrivalsOf, Open, whenIf, sixOf, Tellable, more, countedOf, Writable, Added, Written}
-use Rattle.timing.proofs.Entering.{models-enters, arrival-below, arrival-enters, walk-stays}
-use Rattle.timing.proofs.Six.{results-more}
-
--- tables that hold the circuit's two flows can be written from
-pub writable : (bytes : List ℕ) (image : Image) (source lates earlies first launch latch D E : List ℕ) →
-    Valid bytes → image ≡ imageIn bytes →
-    Models (netOf (arcsOf source lates (image .cycle)) first launch latch) (flow late (circuitOf bytes)) →
-    Models (netOf (arcsOf source earlies (image .cycle)) first launch latch) (flow early (circuitOf bytes)) →
-    Ranged (image .synchronizers) (timesOf D) → Ranged (image .synchronizers) (timesOf E) →
-    Writable bytes image source lates earlies first D E
-writable bytes image source lates earlies first launch latch D E v e m n r s = record {
-  valid = v;
-  same = e;
-  late = models-enters _ _ m;
-  early = models-enters _ _ n;
-  later = r;
-  sooner = s;
-}
+use Rattle.timing.specs.inside.Results.{arrivalsOf, Open, whenIf, sixOf, Tellable, more, countedOf, Writable, Added, Written}
+use Rattle.timing.proofs.Entering.{arrival-below, arrival-enters, walk-stays}
+use Rattle.timing.proofs.SixResults.{results-more}
 
 module _ {bytes : List ℕ} {image : Image} {source lates earlies first D E : List ℕ}
     (w : Writable bytes image source lates earlies first D E) where
@@ -78,7 +60,7 @@ module _ {bytes : List ℕ} {image : Image} {source lates earlies first D E : Li
         let v = sound bytes (w .valid) in
         record {
           here = omega (arith, here, v .synchronizers);
-          rises = w .late .rises i here;
+          rises = w .late .into .rises i here;
           late = walk-stays source lates (image .cycle) (timesOf first) (flow late c) (good late c v) (v .synchronizers) (v .arcs) (w .late) D later i here;
           early = walk-stays source earlies (image .cycle) (timesOf first) (flow early c) (good early c v) (v .synchronizers) (v .arcs) (w .early) E sooner i here;
         }
@@ -89,17 +71,17 @@ module _ {bytes : List ℕ} {image : Image} {source lates earlies first D E : Li
         let c = circuitOf bytes in
         let v = sound bytes (w .valid) in
         record {
-          late = arrival-below _ _ (flow late c) (good late c v) (w .late) _ later i here late;
-          early = arrival-below _ _ (flow early c) (good early c v) (w .early) _ sooner i here early;
+          late = arrival-below (good late c v) (w .late) later i here late;
+          early = arrival-below (good early c v) (w .early) sooner i here early;
         }
 
     late-is : arrives late (circuitOf bytes) (lowered (timesOf D)) i ≡ whenIf (told i .some) (told i .late)
     unfolding arrivalsOf
-    late-is = let c = circuitOf bytes in arrival-enters _ _ (flow late c) (good late c (sound bytes (w .valid))) (w .late) _ later i here late
+    late-is = arrival-enters (good late _ (sound bytes (w .valid))) (w .late) later i here late
 
     early-is : arrives early (circuitOf bytes) (lowered (timesOf E)) i ≡ whenIf (told i .some) (told i .early)
     unfolding arrivalsOf
-    early-is = let c = circuitOf bytes in arrival-enters _ _ (flow early c) (good early c (sound bytes (w .valid))) (w .early) _ sooner i here early
+    early-is = arrival-enters (good early _ (sound bytes (w .valid))) (w .early) sooner i here early
 
     pub six-is : sixOf (timesOf E i) (timesOf D i) (told i) (image .cycle) (synchronizerAt bytes (image .layout) i .setup) (synchronizerAt bytes (image .layout) i .hold)
         ≡ six (circuitOf bytes) (lowered (timesOf E)) (lowered (timesOf D)) i
@@ -119,19 +101,19 @@ module _ {bytes : List ℕ} {image : Image} {source lates earlies first D E : Li
       holds-is = rw (early-is, hold-read i)
 
     -- the synchronizer as it was read, its arrivals, and what was made of them
-    pub added : (s : Synchronizer) (a : Arrivals) (m r : Missed) (before after : List ℤ) →
+    pub added : {s : Synchronizer} {a : Arrivals} {m r : Missed} {before after : List ℤ} →
         s ≡ synchronizerAt bytes (image .layout) i → a ≡ told i →
         after ≡ sets before (6 * i) (sixOf (timesOf E i) (timesOf D i) a (image .cycle) (s .setup) (s .hold)) →
         r ≡ countedOf m a (image .cycle) (s .setup) (s .hold) →
         Added (circuitOf bytes) (lowered (timesOf D)) (lowered (timesOf E)) i before after m r
-    added s a m r before after es ea ef er = record {
+    added {m = m} es ea ef er = record {
       list = ef ∙ rw (es, ea, six-is);
       setups = rw (er, es, ea) (setups-is m);
       holds = rw (er, es, ea) (holds-is m);
     }
 
-    pub told-as : (a : Arrivals) → a ≡ told i → Tellable a
-    told-as a e = rw e tellable
+    pub told-as : {a : Arrivals} → a ≡ told i → Tellable a
+    told-as e = rw e tellable
 
 -- counting
 pub count-few : (test : ℕ → Bool) (n : ℕ) → count test n ≤ n
@@ -153,18 +135,18 @@ pub record WrittenTo (c : Circuit) (D E : ℕ → ℤ) (n : ℕ) (before after :
   pub setups : m .setups ≡ count (λ i. missed (setupSlack c i) (arrives late c D i)) n
   pub holds : m .holds ≡ count (λ i. missed (holdSlack c i) (arrives early c E i)) n
 
-module _ (c : Circuit) (D E : ℕ → ℤ) where
-  pub written-none : (old : List ℤ) → WrittenTo c D E 0 old old (record { setups = 0; holds = 0 })
+module _ {c : Circuit} {D E : ℕ → ℤ} where
+  pub written-none : {old : List ℤ} → WrittenTo c D E 0 old old (record { setups = 0; holds = 0 })
   unfolding results count
-  written-none old = record { list = refl; setups = refl; holds = refl }
+  written-none = record { list = refl; setups = refl; holds = refl }
 
-  pub written-more : (i : ℕ) (old before after : List ℤ) (m r : Missed) → 6 * suc i ≤ length old →
+  pub written-more : {i : ℕ} {old before after : List ℤ} {m r : Missed} → 6 * suc i ≤ length old →
       WrittenTo c D E i old before m → Added c D E i before after m r → WrittenTo c D E (suc i) old after r
-  written-more i old before after m r h k a = record {
+  written-more {i} {old} h k a = record {
     list = a .list ∙ rw (k .list) (results-more c E D i old h);
     setups = a .setups ∙ count-more _ i _ (k .setups);
     holds = a .holds ∙ count-more _ i _ (k .holds);
   }
 
-  pub written-all : (n : ℕ) (old after : List ℤ) (m : Missed) → n ≡ c .synchronizers → WrittenTo c D E n old after m → Written c D E old after m
-  written-all n old after m e h = let k = rw e at h in record { list = k .list; setups = k .setups; holds = k .holds }
+  pub written-all : {n : ℕ} {old after : List ℤ} {m : Missed} → n ≡ c .synchronizers → WrittenTo c D E n old after m → Written c D E old after m
+  written-all e h = let k = rw e at h in record { list = k .list; setups = k .setups; holds = k .holds }

@@ -1,8 +1,3 @@
-pub mod Ready
-pub mod Loaded
-pub mod Results
-pub mod Ring
-pub mod Told
-pub mod Traceable
-pub mod Promise
-pub mod Paths
+pub mod TimingPromise
+pub mod PathPromise
+pub mod inside

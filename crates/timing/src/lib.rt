@@ -1,19 +1,20 @@
 // Timing: from an image to early and late times, slacks and missed counts, or to a growing loop; and the path over which a late
 // arrival came.
 mod arrive;
-mod ask;
-mod call;
-mod climb;
 mod load;
 mod order;
+mod passes;
+mod path_call;
 mod ranks;
 mod results;
 mod ring;
 mod signed;
+mod sizes;
 mod sweeps;
+mod timing_call;
 mod trail;
 
-pub use ask::Way;
-pub use ask::path;
-pub use call::Answer;
-pub use call::timing;
+pub use path_call::Way;
+pub use path_call::path;
+pub use timing_call::Answer;
+pub use timing_call::timing;

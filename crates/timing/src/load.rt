@@ -3,11 +3,16 @@ ghost use mathlib.Core.Path.{_≡_};
 ghost use Prim.Native.Nat.{_+_, _-_, _≤_, _<_};
 ghost use lib.ListN.{length};
 ghost use Rattle.image.specs.Valid.{Valid, imageIn};
-ghost use Rattle.circuit.specs.Circuit.{circuitOf};
-ghost use Rattle.tables.proofs.Filled.{Filled};
-ghost use Rattle.timing.specs.Loaded.{Launched, Noted, Led, Spread, LoadedNodes, LoadedArcs, LoadedFirst, Sized, Loaded};
+ghost use Rattle.circuit.specs.Circuit.{Circuit, circuitOf};
+ghost use Rattle.tables.specs.inside.Filled.{Filled};
+ghost use Rattle.timing.specs.inside.Loaded.{Launched, Noted, LoadedArc, Spread, LoadedNodes, LoadedArcs, LoadedFirst, Sized, Loaded};
+ghost use Rattle.tables.specs.inside.Sizes.{ARCS, FIRSTS, NODES, PHASES};
 use crate::arrive::narrow;
 use crate::signed::RAISE;
+use crate::sizes::ARCS;
+use crate::sizes::FIRSTS;
+use crate::sizes::NODES;
+use crate::sizes::PHASES;
 use image::Arc;
 use image::Image;
 use image::Phase;
@@ -31,12 +36,14 @@ struct Lead {
 }
 
 // When each phase closes, and how long it is active before that.
-fn load_phases(bytes: &[u8], image: Image, closing: &mut [u32; 16], active: &mut [u32; 16])
-    requires { ⌜ Valid (now bytes) ⌝ }
-    requires { ⌜ image ≡ imageIn (now bytes) ⌝ }
-    requires { ⌜ (length (now closing) ≡ 16) × (length (now active) ≡ 16) ⌝ }
-    ensures { λ r. ⌜ Filled 16 (circuitOf (now (bytes .entry)) .closing) (now (closing .exit)) (circuitOf (now (bytes .entry)) .phases) ⌝ }
-    ensures { λ r. ⌜ Filled 16 (circuitOf (now (bytes .entry)) .active) (now (active .exit)) (circuitOf (now (bytes .entry)) .phases) ⌝ }
+fn load_phases(bytes: &[u8], image: Image, closing: &mut [u32; PHASES], active: &mut [u32; PHASES])
+    ghost { Circuit }
+    requires { λ c. ⌜ circuitOf (now bytes) ≡ c ⌝ }
+    requires { λ c. ⌜ Valid (now bytes) ⌝ }
+    requires { λ c. ⌜ image ≡ imageIn (now bytes) ⌝ }
+    requires { λ c. ⌜ (length (now closing) ≡ PHASES) × (length (now active) ≡ PHASES) ⌝ }
+    ensures { λ c r. ⌜ Filled PHASES (c .closing) (now (closing .exit)) (c .phases) ⌝ }
+    ensures { λ c r. ⌜ Filled PHASES (c .active) (now (active .exit)) (c .phases) ⌝ }
 {
     let layout = image.layout;
     let mut p: u32 = 0;
@@ -50,13 +57,15 @@ fn load_phases(bytes: &[u8], image: Image, closing: &mut [u32; 16], active: &mut
 }
 
 // A synchronizer's launch: the opening of a latch, the cycle for a flip-flop.
-fn launched(bytes: &[u8], image: Image, active: &[u32; 16], i: u32) -> Node
-    requires { ⌜ Valid (now bytes) ⌝ }
-    requires { ⌜ image ≡ imageIn (now bytes) ⌝ }
-    requires { ⌜ i < image .synchronizers ⌝ }
-    requires { ⌜ Filled 16 (circuitOf (now bytes) .active) (now active) (circuitOf (now bytes) .phases) ⌝ }
-    ensures { λ r. ⌜ Launched (circuitOf (now (bytes .entry))) i (r .launch) (r .latch) ⌝ }
-    ensures { λ r. ⌜ (r .phase ≡ circuitOf (now (bytes .entry)) .phase i) × (r .least ≡ circuitOf (now (bytes .entry)) .least i) × (r .greatest ≡ circuitOf (now (bytes .entry)) .greatest i) ⌝ }
+fn launched(bytes: &[u8], image: Image, active: &[u32; PHASES], i: u32) -> Node
+    ghost { Circuit }
+    requires { λ c. ⌜ circuitOf (now bytes) ≡ c ⌝ }
+    requires { λ c. ⌜ Valid (now bytes) ⌝ }
+    requires { λ c. ⌜ image ≡ imageIn (now bytes) ⌝ }
+    requires { λ c. ⌜ i < image .synchronizers ⌝ }
+    requires { λ c. ⌜ Filled PHASES (c .active) (now active) (c .phases) ⌝ }
+    ensures { λ c r. ⌜ Launched c i (r .launch) (r .latch) ⌝ }
+    ensures { λ c r. ⌜ (r .phase ≡ c .phase i) × (r .least ≡ c .least i) × (r .greatest ≡ c .greatest i) ⌝ }
 {
     let s = Synchronizer::of(bytes, image, i);
     let raised = RAISE + (image.cycle as u64);
@@ -82,22 +91,24 @@ fn launched(bytes: &[u8], image: Image, active: &[u32; 16], i: u32) -> Node
 fn load_nodes(
     bytes: &[u8],
     image: Image,
-    active: &[u32; 16],
-    launch: &mut [u64; 512],
-    latch: &mut [u8; 512],
-    phase: &mut [u8; 512],
-    least: &mut [u32; 512],
-    greatest: &mut [u32; 512],
+    active: &[u32; PHASES],
+    launch: &mut [u64; NODES],
+    latch: &mut [u8; NODES],
+    phase: &mut [u8; NODES],
+    least: &mut [u32; NODES],
+    greatest: &mut [u32; NODES],
 )
-    requires { ⌜ Valid (now bytes) ⌝ }
-    requires { ⌜ image ≡ imageIn (now bytes) ⌝ }
-    requires { ⌜ Filled 16 (circuitOf (now bytes) .active) (now active) (circuitOf (now bytes) .phases) ⌝ }
-    requires { ⌜ (length (now launch) ≡ 512) × (length (now latch) ≡ 512) ⌝ }
-    requires { ⌜ (length (now phase) ≡ 512) × (length (now least) ≡ 512) × (length (now greatest) ≡ 512) ⌝ }
-    ensures { λ r. ⌜ LoadedNodes (circuitOf (now (bytes .entry))) (now (launch .exit)) (now (latch .exit)) ⌝ }
-    ensures { λ r. ⌜ Filled 512 (circuitOf (now (bytes .entry)) .phase) (now (phase .exit)) (circuitOf (now (bytes .entry)) .synchronizers) ⌝ }
-    ensures { λ r. ⌜ Filled 512 (circuitOf (now (bytes .entry)) .least) (now (least .exit)) (circuitOf (now (bytes .entry)) .synchronizers) ⌝ }
-    ensures { λ r. ⌜ Filled 512 (circuitOf (now (bytes .entry)) .greatest) (now (greatest .exit)) (circuitOf (now (bytes .entry)) .synchronizers) ⌝ }
+    ghost { Circuit }
+    requires { λ c. ⌜ circuitOf (now bytes) ≡ c ⌝ }
+    requires { λ c. ⌜ Valid (now bytes) ⌝ }
+    requires { λ c. ⌜ image ≡ imageIn (now bytes) ⌝ }
+    requires { λ c. ⌜ Filled PHASES (c .active) (now active) (c .phases) ⌝ }
+    requires { λ c. ⌜ (length (now launch) ≡ NODES) × (length (now latch) ≡ NODES) ⌝ }
+    requires { λ c. ⌜ (length (now phase) ≡ NODES) × (length (now least) ≡ NODES) × (length (now greatest) ≡ NODES) ⌝ }
+    ensures { λ c r. ⌜ LoadedNodes c (now (launch .exit)) (now (latch .exit)) ⌝ }
+    ensures { λ c r. ⌜ Filled NODES (c .phase) (now (phase .exit)) (c .synchronizers) ⌝ }
+    ensures { λ c r. ⌜ Filled NODES (c .least) (now (least .exit)) (c .synchronizers) ⌝ }
+    ensures { λ c r. ⌜ Filled NODES (c .greatest) (now (greatest .exit)) (c .synchronizers) ⌝ }
 {
     let mut i: u32 = 0;
     while i < image.synchronizers {
@@ -112,7 +123,7 @@ fn load_nodes(
     }
 }
 
-// Equation 1: the shift from phase p, which closes at x, to phase q, which closes at y.
+// The shift (docs/RULES.md, "The equations") from phase p, which closes at x, to phase q, which closes at y.
 fn shift(cycle: u32, p: u8, q: u8, x: u32, y: u32) -> u32
     requires { ⌜ (p < q → x ≤ y) × (q ≤ p → (x ≤ cycle + y) × (cycle + y < 4294967296)) ⌝ }
     ensures { λ r. ⌜ (p < q → r ≡ y - x) × (q ≤ p → r ≡ cycle + y - x) ⌝ }
@@ -124,18 +135,20 @@ fn shift(cycle: u32, p: u8, q: u8, x: u32, y: u32) -> u32
 fn led(
     bytes: &[u8],
     image: Image,
-    closing: &[u32; 16],
-    phase: &[u8; 512],
-    least: &[u32; 512],
-    greatest: &[u32; 512],
+    closing: &[u32; PHASES],
+    phase: &[u8; NODES],
+    least: &[u32; NODES],
+    greatest: &[u32; NODES],
     a: u32,
 ) -> Lead
-    requires { ⌜ Valid (now bytes) ⌝ }
-    requires { ⌜ image ≡ imageIn (now bytes) ⌝ }
-    requires { ⌜ a < image .arcs ⌝ }
-    requires { ⌜ Noted (circuitOf (now bytes)) (now closing) (now phase) (now least) (now greatest) ⌝ }
-    ensures { λ r. ⌜ Led (circuitOf (now (bytes .entry))) a (r .source) (r .late) (r .early) ⌝ }
-    ensures { λ r. ⌜ r .target ≡ circuitOf (now (bytes .entry)) .to a ⌝ }
+    ghost { Circuit }
+    requires { λ c. ⌜ circuitOf (now bytes) ≡ c ⌝ }
+    requires { λ c. ⌜ Valid (now bytes) ⌝ }
+    requires { λ c. ⌜ image ≡ imageIn (now bytes) ⌝ }
+    requires { λ c. ⌜ a < image .arcs ⌝ }
+    requires { λ c. ⌜ Noted c (now closing) (now phase) (now least) (now greatest) ⌝ }
+    ensures { λ c r. ⌜ LoadedArc c a (r .source) (r .late) (r .early) ⌝ }
+    ensures { λ c r. ⌜ r .target ≡ c .to a ⌝ }
 {
     let arc = Arc::of(bytes, image, a);
     let from = arc.from as usize;
@@ -153,8 +166,8 @@ fn led(
 }
 
 // No arc before a enters a synchronizer above `from`, and none from a on enters one below `to`: the arcs into those between begin at a.
-fn enter(first: &mut [u16; 513], from: usize, to: usize, a: u16)
-    requires { ⌜ (to ≤ 512) × (length (now first) ≡ 513) ⌝ }
+fn enter(first: &mut [u16; FIRSTS], from: usize, to: usize, a: u16)
+    requires { ⌜ (to ≤ NODES) × (length (now first) ≡ FIRSTS) ⌝ }
     ensures { λ _. ⌜ Spread (now (first .entry)) from to a (now (first .exit)) ⌝ }
 {
     let mut i = from;
@@ -168,20 +181,22 @@ fn enter(first: &mut [u16; 513], from: usize, to: usize, a: u16)
 fn load_arcs(
     bytes: &[u8],
     image: Image,
-    closing: &[u32; 16],
-    phase: &[u8; 512],
-    least: &[u32; 512],
-    greatest: &[u32; 512],
-    source: &mut [u16; 2048],
-    late: &mut [u32; 2048],
-    early: &mut [u32; 2048],
-    first: &mut [u16; 513],
+    closing: &[u32; PHASES],
+    phase: &[u8; NODES],
+    least: &[u32; NODES],
+    greatest: &[u32; NODES],
+    source: &mut [u16; ARCS],
+    late: &mut [u32; ARCS],
+    early: &mut [u32; ARCS],
+    first: &mut [u16; FIRSTS],
 )
-    requires { ⌜ Valid (now bytes) × (image ≡ imageIn (now bytes)) ⌝ }
-    requires { ⌜ Noted (circuitOf (now bytes)) (now closing) (now phase) (now least) (now greatest) ⌝ }
-    requires { ⌜ (length (now source) ≡ 2048) × (length (now late) ≡ 2048) × (length (now early) ≡ 2048) × (length (now first) ≡ 513) ⌝ }
-    ensures { λ _. ⌜ LoadedArcs (circuitOf (now (bytes .entry))) (now (source .exit)) (now (late .exit)) (now (early .exit)) ⌝ }
-    ensures { λ _. ⌜ LoadedFirst (circuitOf (now (bytes .entry))) (now (first .exit)) ⌝ }
+    ghost { Circuit }
+    requires { λ c. ⌜ circuitOf (now bytes) ≡ c ⌝ }
+    requires { λ c. ⌜ Valid (now bytes) × (image ≡ imageIn (now bytes)) ⌝ }
+    requires { λ c. ⌜ Noted c (now closing) (now phase) (now least) (now greatest) ⌝ }
+    requires { λ c. ⌜ (length (now source) ≡ ARCS) × (length (now late) ≡ ARCS) × (length (now early) ≡ ARCS) × (length (now first) ≡ FIRSTS) ⌝ }
+    ensures { λ c _. ⌜ LoadedArcs c (now (source .exit)) (now (late .exit)) (now (early .exit)) ⌝ }
+    ensures { λ c _. ⌜ LoadedFirst c (now (first .exit)) ⌝ }
 {
     first[0] = 0;
     let mut entered: usize = 0;
@@ -209,22 +224,24 @@ fn load_arcs(
 pub(crate) fn load(
     bytes: &[u8],
     image: Image,
-    source: &mut [u16; 2048],
-    late: &mut [u32; 2048],
-    early: &mut [u32; 2048],
-    first: &mut [u16; 513],
-    launch: &mut [u64; 512],
-    latch: &mut [u8; 512],
+    source: &mut [u16; ARCS],
+    late: &mut [u32; ARCS],
+    early: &mut [u32; ARCS],
+    first: &mut [u16; FIRSTS],
+    launch: &mut [u64; NODES],
+    latch: &mut [u8; NODES],
 )
-    requires { ⌜ Valid (now bytes) × (image ≡ imageIn (now bytes)) ⌝ }
-    requires { ⌜ Sized (now source) (now late) (now early) (now first) (now launch) (now latch) ⌝ }
-    ensures { λ _. ⌜ Loaded (circuitOf (now (bytes .entry))) (now (source .exit)) (now (late .exit)) (now (early .exit)) (now (first .exit)) (now (launch .exit)) (now (latch .exit)) ⌝ }
+    ghost { Circuit }
+    requires { λ c. ⌜ circuitOf (now bytes) ≡ c ⌝ }
+    requires { λ c. ⌜ Valid (now bytes) × (image ≡ imageIn (now bytes)) ⌝ }
+    requires { λ c. ⌜ Sized (now source) (now late) (now early) (now first) (now launch) (now latch) ⌝ }
+    ensures { λ c _. ⌜ Loaded c (now (source .exit)) (now (late .exit)) (now (early .exit)) (now (first .exit)) (now (launch .exit)) (now (latch .exit)) ⌝ }
 {
-    let mut closing = [0u32; 16];
-    let mut active = [0u32; 16];
-    let mut phase = [0u8; 512];
-    let mut least = [0u32; 512];
-    let mut greatest = [0u32; 512];
+    let mut closing = [0u32; PHASES];
+    let mut active = [0u32; PHASES];
+    let mut phase = [0u8; NODES];
+    let mut least = [0u32; NODES];
+    let mut greatest = [0u32; NODES];
     load_phases(bytes, image, &mut closing, &mut active);
     load_nodes(
         bytes,

@@ -5,17 +5,21 @@
 ghost use mathlib.Core.Path.{_≡_};
 ghost use Prim.Native.Nat.{ℕ, _+_, _≤_, _<_};
 ghost use lib.ListN.{length};
-ghost use Rattle.tables.specs.Net.{timesOf};
-ghost use Rattle.tables.specs.Listing.{Listed, Enlisted, Order, Stacked, Fed};
+ghost use Rattle.tables.specs.inside.Net.{timesOf};
+ghost use Rattle.tables.specs.inside.Listing.{Listed, Enlisted, Order, Stacked, Fed};
+ghost use Rattle.tables.specs.inside.Sizes.{NODES};
 use crate::arrive::index;
 use crate::arrive::narrow;
+use crate::sizes::ARCS;
+use crate::sizes::FIRSTS;
+use crate::sizes::NODES;
 
 // More steps than a walk has: it goes over each arc once, and leaves each synchronizer once.
-const STEPS: usize = 4096;
+const STEPS: usize = 2 * ARCS;
 
 // Lists a synchronizer, unless it is listed already. Says how many are listed.
-fn enlist(i: u16, l: usize, count: usize, marks: &mut [u8; 512], list: &mut [u16; 512]) -> usize
-    requires { ⌜ (i < l) × (l ≤ 512) ⌝ }
+fn enlist(i: u16, l: usize, count: usize, marks: &mut [u8; NODES], list: &mut [u16; NODES]) -> usize
+    requires { ⌜ (i < l) × (l ≤ NODES) ⌝ }
     requires { ⌜ Enlisted l (now marks) (now list) count ⌝ }
     ensures { λ r. ⌜ Enlisted l (now (marks .exit)) (now (list .exit)) r ⌝ }
     ensures { λ r. ⌜ (Listed (timesOf (now (list .exit))) r i) ⌝ }
@@ -31,15 +35,15 @@ fn enlist(i: u16, l: usize, count: usize, marks: &mut [u8; 512], list: &mut [u16
 
 // Stacks a synchronizer that the walk has not seen. Says how high the stack is.
 fn push(
-    first: &[u16; 513],
+    first: &[u16; FIRSTS],
     l: usize,
     i: u16,
     depth: usize,
-    seen: &mut [u8; 512],
-    stack: &mut [u16; 512],
-    ahead: &mut [u16; 512],
+    seen: &mut [u8; NODES],
+    stack: &mut [u16; NODES],
+    ahead: &mut [u16; NODES],
 ) -> usize
-    requires { ⌜ (l ≤ 512) × (i < l) ⌝ }
+    requires { ⌜ (l ≤ NODES) × (i < l) ⌝ }
     requires { ⌜ Stacked l (now stack) depth ⌝ }
     ensures { λ r. ⌜ Stacked l (now (stack .exit)) r ⌝ }
 {
@@ -56,8 +60,8 @@ fn push(
 }
 
 // Behind the last arc that feeds a synchronizer. Nothing feeds a flip-flop: it departs when it departs.
-fn end(first: &[u16; 513], latch: &[u8; 512], i: usize) -> u16
-    requires { ⌜ i < 512 ⌝ }
+fn end(first: &[u16; FIRSTS], latch: &[u8; NODES], i: usize) -> u16
+    requires { ⌜ i < NODES ⌝ }
     ensures { λ r. ⌜ r ≤ timesOf (now (first .entry)) (i + 1) ⌝ }
 {
     if latch[i] == 1 { first[i + 1] } else { 0 }
@@ -70,19 +74,19 @@ struct Spot {
 
 // One step of the walk: over the next arc that feeds the synchronizer on top; where there is none, that one is listed and leaves the stack.
 fn step(
-    source: &[u16; 2048],
-    first: &[u16; 513],
-    latch: &[u8; 512],
+    source: &[u16; ARCS],
+    first: &[u16; FIRSTS],
+    latch: &[u8; NODES],
     l: usize,
     depth: usize,
-    seen: &mut [u8; 512],
-    stack: &mut [u16; 512],
-    ahead: &mut [u16; 512],
+    seen: &mut [u8; NODES],
+    stack: &mut [u16; NODES],
+    ahead: &mut [u16; NODES],
     count: usize,
-    marks: &mut [u8; 512],
-    list: &mut [u16; 512],
+    marks: &mut [u8; NODES],
+    list: &mut [u16; NODES],
 ) -> Spot
-    requires { ⌜ (l ≤ 512) × (0 < depth) ⌝ }
+    requires { ⌜ (l ≤ NODES) × (0 < depth) ⌝ }
     requires { ⌜ Fed (timesOf (now source)) (timesOf (now first)) l ⌝ }
     requires { ⌜ Stacked l (now stack) depth ⌝ }
     requires { ⌜ Enlisted l (now marks) (now list) count ⌝ }
@@ -109,23 +113,23 @@ fn step(
 
 // The walk back from synchronizer i. Says how many are listed.
 fn explore(
-    source: &[u16; 2048],
-    first: &[u16; 513],
-    latch: &[u8; 512],
+    source: &[u16; ARCS],
+    first: &[u16; FIRSTS],
+    latch: &[u8; NODES],
     l: usize,
     i: u16,
-    seen: &mut [u8; 512],
-    stack: &mut [u16; 512],
-    ahead: &mut [u16; 512],
+    seen: &mut [u8; NODES],
+    stack: &mut [u16; NODES],
+    ahead: &mut [u16; NODES],
     count: usize,
-    marks: &mut [u8; 512],
-    list: &mut [u16; 512],
+    marks: &mut [u8; NODES],
+    list: &mut [u16; NODES],
 ) -> usize
-    requires { ⌜ (l ≤ 512) × (i < l) ⌝ }
+    requires { ⌜ (l ≤ NODES) × (i < l) ⌝ }
     requires { ⌜ Fed (timesOf (now source)) (timesOf (now first)) l ⌝ }
-    requires { ⌜ length (now stack) ≡ 512 ⌝ }
+    requires { ⌜ length (now stack) ≡ NODES ⌝ }
     requires { ⌜ Enlisted l (now marks) (now list) count ⌝ }
-    ensures { λ r. ⌜ length (now (stack .exit)) ≡ 512 ⌝ }
+    ensures { λ r. ⌜ length (now (stack .exit)) ≡ NODES ⌝ }
     ensures { λ r. ⌜ Enlisted l (now (marks .exit)) (now (list .exit)) r ⌝ }
     ensures { λ r. ⌜ ((j : ℕ) → Listed (timesOf (now (list .entry))) count j → Listed (timesOf (now (list .exit))) r j) ⌝ }
 {
@@ -158,22 +162,22 @@ fn explore(
 
 // Lists all l synchronizers.
 pub(crate) fn arrange(
-    source: &[u16; 2048],
-    first: &[u16; 513],
-    latch: &[u8; 512],
+    source: &[u16; ARCS],
+    first: &[u16; FIRSTS],
+    latch: &[u8; NODES],
     l: usize,
-    order: &mut [u16; 512],
+    order: &mut [u16; NODES],
 )
-    requires { ⌜ l ≤ 512 ⌝ }
+    requires { ⌜ l ≤ NODES ⌝ }
     requires { ⌜ Fed (timesOf (now source)) (timesOf (now first)) l ⌝ }
-    requires { ⌜ length (now order) ≡ 512 ⌝ }
-    ensures { λ _. ⌜ length (now (order .exit)) ≡ 512 ⌝ }
+    requires { ⌜ length (now order) ≡ NODES ⌝ }
+    ensures { λ _. ⌜ length (now (order .exit)) ≡ NODES ⌝ }
     ensures { λ _. ⌜ Order l (timesOf (now (order .exit))) ⌝ }
 {
-    let mut seen = [0u8; 512];
-    let mut stack = [0u16; 512];
-    let mut ahead = [0u16; 512];
-    let mut marks = [0u8; 512];
+    let mut seen = [0u8; NODES];
+    let mut stack = [0u16; NODES];
+    let mut ahead = [0u16; NODES];
+    let mut marks = [0u8; NODES];
     let mut count: usize = 0;
     let mut i: usize = 0;
     while i < l {

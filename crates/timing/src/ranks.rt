@@ -5,30 +5,36 @@ ghost use mathlib.Core.Bool.{_&&_};
 ghost use Prim.Native.Nat.{_≤_, _<_};
 ghost use lib.Dec.{eqb};
 ghost use lib.ListN.{length};
-ghost use Rattle.tables.specs.Net.{timesOf, arcsOf, netOf, brought, Shaped, Ranged};
-ghost use Rattle.tables.proofs.Filled.{Filled};
-ghost use Rattle.tables.specs.Trail.{Tells};
-ghost use Rattle.tables.specs.Ranks.{GivenBy, Ranked, SweepReady, Sweeping, firstRank, RanksUpTo};
-ghost use Rattle.timing.specs.Ready.{Reachable, ReachableAt, WorksAt};
+ghost use Rattle.tables.specs.inside.Net.{Arcs, Net, timesOf, arcsOf, netOf, brought, Shaped, Ranged};
+ghost use Rattle.tables.specs.inside.Filled.{Filled};
+ghost use Rattle.tables.specs.inside.Trail.{Tells};
+ghost use Rattle.tables.specs.inside.Ranks.{GivenBy, Ranked, SweepReady, Sweeping, firstRank, RanksUpTo};
+ghost use Rattle.timing.specs.inside.Ready.{Reachable, ReachableAt, WorksAt};
+ghost use Rattle.tables.specs.inside.Sizes.{NODES};
 use crate::arrive::bring;
 use crate::arrive::index;
+use crate::sizes::ARCS;
+use crate::sizes::FIRSTS;
+use crate::sizes::NODES;
 
 // A number that no rank is
 const NONE: u16 = 65_535;
 
 // Does arc a give the time, from a synchronizer of that rank?
 fn hits(
-    source: &[u16; 2048],
-    lead: &[u32; 2048],
+    source: &[u16; ARCS],
+    lead: &[u32; ARCS],
     cycle: u32,
-    departs: &[u64; 512],
-    ranks: &[u16; 512],
+    departs: &[u64; NODES],
+    ranks: &[u16; NODES],
     a: usize,
     time: u64,
     rank: u16,
 ) -> bool
-    requires { ⌜ ReachableAt (now source) (now departs) a ⌝ }
-    ensures { λ r. ⌜ r ≡ (eqb (brought (arcsOf (now (source .entry)) (now (lead .entry)) cycle) (timesOf (now (departs .entry))) a) time && eqb (timesOf (now (ranks .entry)) (timesOf (now (source .entry)) a)) rank) ⌝ }
+    ghost { Arcs }
+    requires { λ g. ⌜ arcsOf (now source) (now lead) cycle ≡ g ⌝ }
+    requires { λ g. ⌜ ReachableAt (now source) (now departs) a ⌝ }
+    ensures { λ g r. ⌜ r ≡ (eqb (brought g (timesOf (now (departs .entry))) a) time && eqb (timesOf (now (ranks .entry)) (timesOf (now (source .entry)) a)) rank) ⌝ }
 {
     let there = ranks[index(source[a])] == rank;
     (bring(source, lead, cycle, departs, a) == time) & there
@@ -36,19 +42,21 @@ fn hits(
 
 // Does an arc from `from` up to `to` give the time, from a synchronizer of that rank?
 fn gives(
-    source: &[u16; 2048],
-    lead: &[u32; 2048],
+    source: &[u16; ARCS],
+    lead: &[u32; ARCS],
     cycle: u32,
-    departs: &[u64; 512],
-    ranks: &[u16; 512],
+    departs: &[u64; NODES],
+    ranks: &[u16; NODES],
     from: usize,
     to: usize,
     time: u64,
     rank: u16,
 ) -> bool
-    requires { ⌜ from ≤ to ⌝ }
-    requires { ⌜ Reachable (now source) (now departs) to ⌝ }
-    ensures { λ r. ⌜ Tells (GivenBy (arcsOf (now (source .entry)) (now (lead .entry)) cycle) (timesOf (now (departs .entry))) (timesOf (now (ranks .entry))) time rank from to) r ⌝ }
+    ghost { Arcs }
+    requires { λ g. ⌜ arcsOf (now source) (now lead) cycle ≡ g ⌝ }
+    requires { λ g. ⌜ from ≤ to ⌝ }
+    requires { λ g. ⌜ Reachable (now source) (now departs) to ⌝ }
+    ensures { λ g r. ⌜ Tells (GivenBy g (timesOf (now (departs .entry))) (timesOf (now (ranks .entry))) time rank from to) r ⌝ }
 {
     let mut a = from;
     while a < to {
@@ -62,20 +70,22 @@ fn gives(
 
 // Looks at synchronizer i in the sweep after the given rank.
 fn look(
-    source: &[u16; 2048],
-    lead: &[u32; 2048],
+    source: &[u16; ARCS],
+    lead: &[u32; ARCS],
     cycle: u32,
-    first: &[u16; 513],
-    launch: &[u64; 512],
-    latch: &[u8; 512],
-    departs: &[u64; 512],
+    first: &[u16; FIRSTS],
+    launch: &[u64; NODES],
+    latch: &[u8; NODES],
+    departs: &[u64; NODES],
     i: usize,
     rank: u16,
-    ranks: &mut [u16; 512],
+    ranks: &mut [u16; NODES],
 ) -> bool
-    requires { ⌜ WorksAt (netOf (arcsOf (now source) (now lead) cycle) (now first) (now launch) (now latch)) (timesOf (now departs)) i ⌝ }
-    requires { ⌜ rank < 65534 ⌝ }
-    ensures { λ r. ⌜ Ranked (netOf (arcsOf (now (source .entry)) (now (lead .entry)) cycle) (now (first .entry)) (now (launch .entry)) (now (latch .entry))) (timesOf (now (departs .entry))) i rank (now (ranks .entry)) r (now (ranks .exit)) ⌝ }
+    ghost { Net }
+    requires { λ n. ⌜ netOf (arcsOf (now source) (now lead) cycle) (now first) (now launch) (now latch) ≡ n ⌝ }
+    requires { λ n. ⌜ WorksAt n (timesOf (now departs)) i ⌝ }
+    requires { λ n. ⌜ rank < 65534 ⌝ }
+    ensures { λ n r. ⌜ Ranked n (timesOf (now (departs .entry))) i rank (now (ranks .entry)) r (now (ranks .exit)) ⌝ }
 {
     if ranks[i] != NONE {
         return false;
@@ -102,20 +112,22 @@ fn look(
 
 // One sweep. Says whether it found any.
 fn sweep(
-    source: &[u16; 2048],
-    lead: &[u32; 2048],
+    source: &[u16; ARCS],
+    lead: &[u32; ARCS],
     cycle: u32,
-    first: &[u16; 513],
-    launch: &[u64; 512],
-    latch: &[u8; 512],
-    departs: &[u64; 512],
+    first: &[u16; FIRSTS],
+    launch: &[u64; NODES],
+    latch: &[u8; NODES],
+    departs: &[u64; NODES],
     l: usize,
     m: usize,
     rank: u16,
-    ranks: &mut [u16; 512],
+    ranks: &mut [u16; NODES],
 ) -> bool
-    requires { ⌜ SweepReady (netOf (arcsOf (now source) (now lead) cycle) (now first) (now launch) (now latch)) l m (timesOf (now departs)) rank (now ranks) ⌝ }
-    ensures { λ r. ⌜ Sweeping (netOf (arcsOf (now (source .entry)) (now (lead .entry)) cycle) (now (first .entry)) (now (launch .entry)) (now (latch .entry))) (timesOf (now (departs .entry))) rank (now (ranks .entry)) (now (ranks .exit)) l r ⌝ }
+    ghost { Net }
+    requires { λ n. ⌜ netOf (arcsOf (now source) (now lead) cycle) (now first) (now launch) (now latch) ≡ n ⌝ }
+    requires { λ n. ⌜ SweepReady n l m (timesOf (now departs)) rank (now ranks) ⌝ }
+    ensures { λ n r. ⌜ Sweeping n (timesOf (now (departs .entry))) rank (now (ranks .entry)) (now (ranks .exit)) l r ⌝ }
 {
     let mut found = false;
     let mut i: usize = 0;
@@ -138,18 +150,18 @@ fn sweep(
     found
 }
 
-fn first_rank(launch: &[u64; 512], departs: &[u64; 512], i: usize) -> u16
-    requires { ⌜ i < 512 ⌝ }
+fn first_rank(launch: &[u64; NODES], departs: &[u64; NODES], i: usize) -> u16
+    requires { ⌜ i < NODES ⌝ }
     ensures { λ r. ⌜ r ≡ firstRank (timesOf (now (launch .entry))) (timesOf (now (departs .entry))) i ⌝ }
 {
     if departs[i] == launch[i] { 0 } else { NONE }
 }
 
 // Rank 0 for those that depart at their launch, none for the others.
-fn begin(launch: &[u64; 512], departs: &[u64; 512], l: usize, ranks: &mut [u16; 512])
-    requires { ⌜ l ≤ 512 ⌝ }
-    requires { ⌜ length (now ranks) ≡ 512 ⌝ }
-    ensures { λ _. ⌜ Filled 512 (firstRank (timesOf (now (launch .entry))) (timesOf (now (departs .entry)))) (now (ranks .exit)) l ⌝ }
+fn begin(launch: &[u64; NODES], departs: &[u64; NODES], l: usize, ranks: &mut [u16; NODES])
+    requires { ⌜ l ≤ NODES ⌝ }
+    requires { ⌜ length (now ranks) ≡ NODES ⌝ }
+    ensures { λ _. ⌜ Filled NODES (firstRank (timesOf (now (launch .entry))) (timesOf (now (departs .entry)))) (now (ranks .exit)) l ⌝ }
 {
     let mut i: usize = 0;
     while i < l {
@@ -160,21 +172,23 @@ fn begin(launch: &[u64; 512], departs: &[u64; 512], l: usize, ranks: &mut [u16; 
 
 // The ranks of all l synchronizers.
 pub(crate) fn rank_all(
-    source: &[u16; 2048],
-    lead: &[u32; 2048],
+    source: &[u16; ARCS],
+    lead: &[u32; ARCS],
     cycle: u32,
-    first: &[u16; 513],
-    launch: &[u64; 512],
-    latch: &[u8; 512],
-    departs: &[u64; 512],
+    first: &[u16; FIRSTS],
+    launch: &[u64; NODES],
+    latch: &[u8; NODES],
+    departs: &[u64; NODES],
     l: usize,
     m: usize,
-) -> [u16; 512]
-    requires { ⌜ Shaped (netOf (arcsOf (now source) (now lead) cycle) (now first) (now launch) (now latch)) l m ⌝ }
-    requires { ⌜ Ranged l (timesOf (now departs)) ⌝ }
-    ensures { λ r. ⌜ RanksUpTo (netOf (arcsOf (now (source .entry)) (now (lead .entry)) cycle) (now (first .entry)) (now (launch .entry)) (now (latch .entry))) l (timesOf (now (departs .entry))) (timesOf r) ⌝ }
+) -> [u16; NODES]
+    ghost { Net }
+    requires { λ n. ⌜ netOf (arcsOf (now source) (now lead) cycle) (now first) (now launch) (now latch) ≡ n ⌝ }
+    requires { λ n. ⌜ Shaped n l m ⌝ }
+    requires { λ n. ⌜ Ranged l (timesOf (now departs)) ⌝ }
+    ensures { λ n r. ⌜ RanksUpTo n l (timesOf (now (departs .entry))) (timesOf r) ⌝ }
 {
-    let mut ranks = [0u16; 512];
+    let mut ranks = [0u16; NODES];
     begin(launch, departs, l, &mut ranks);
     let mut rank: u16 = 0;
     while index(rank) < l {

@@ -2,16 +2,20 @@
 ghost use mathlib.Core.Path.{_≡_};
 ghost use mathlib.Core.Bool.{true};
 ghost use Prim.Native.Nat.{_+_, _*_, _≤_, _<_};
-ghost use lib.ListN.{length, getD};
+ghost use lib.ListN.{length};
 ghost use lib.Seq.{sets};
-ghost use Rattle.ticks.specs.Raised.{lower};
-ghost use Rattle.circuit.specs.Circuit.{circuitOf};
+ghost use Rattle.ticks.specs.inside.Raised.{lower, SIGNED};
+ghost use Rattle.circuit.specs.Circuit.{Circuit, circuitOf};
 ghost use Rattle.circuit.specs.Times.{missed, orMark};
-ghost use Rattle.tables.specs.Net.{arcsOf, timesOf};
-ghost use Rattle.timing.specs.Results.{arrivalsOf, Open, whenIf, setupBy, holdBy, sixOf, more, countedOf, Tellable, Writable, Added, Written};
+ghost use Rattle.tables.specs.inside.Net.{Arcs, arcsOf, timesOf};
+ghost use Rattle.tables.specs.inside.Models.{lowered};
+ghost use Rattle.timing.specs.inside.Results.{arrivalsOf, Open, whenIf, setupBy, holdBy, sixOf, more, countedOf, Tellable, Writable, Added, Written};
 use crate::arrive::arrival;
 use crate::signed::RAISE;
 use crate::signed::minus;
+use crate::sizes::ARCS;
+use crate::sizes::FIRSTS;
+use crate::sizes::NODES;
 use image::Image;
 use image::Synchronizer;
 
@@ -33,17 +37,19 @@ pub(crate) struct Missed {
 
 // Two walks over the arcs into synchronizer i, one for each side.
 pub(crate) fn arrivals_of(
-    source: &[u16; 2048],
-    late: &[u32; 2048],
-    early: &[u32; 2048],
+    source: &[u16; ARCS],
+    late: &[u32; ARCS],
+    early: &[u32; ARCS],
     cycle: u32,
-    first: &[u16; 513],
-    later: &[u64; 512],
-    sooner: &[u64; 512],
+    first: &[u16; FIRSTS],
+    later: &[u64; NODES],
+    sooner: &[u64; NODES],
     i: usize,
 ) -> Arrivals
-    requires { ⌜ Open (now source) (now first) (now later) (now sooner) i ⌝ }
-    ensures { λ r. ⌜ r ≡ arrivalsOf (arcsOf (now (source .entry)) (now (late .entry)) cycle) (arcsOf (now (source .entry)) (now (early .entry)) cycle) (timesOf (now (first .entry))) (timesOf (now (later .entry))) (timesOf (now (sooner .entry))) i ⌝ }
+    ghost { Arcs × Arcs }
+    requires { λ g. ⌜ (arcsOf (now source) (now late) cycle, arcsOf (now source) (now early) cycle) ≡ g ⌝ }
+    requires { λ g. ⌜ Open (now source) (now first) (now later) (now sooner) i ⌝ }
+    ensures { λ g r. ⌜ r ≡ arrivalsOf (g .0) (g .1) (timesOf (now (first .entry))) (timesOf (now (later .entry))) (timesOf (now (sooner .entry))) i ⌝ }
 {
     let from = first[i] as usize;
     let to = first[i + 1] as usize;
@@ -56,7 +62,7 @@ pub(crate) fn arrivals_of(
 
 // The time that a raised one stands for.
 fn time(t: u64) -> i64
-    requires { ⌜ t < 9223372036854775808 ⌝ }
+    requires { ⌜ t < SIGNED ⌝ }
     ensures { λ r. ⌜ r ≡ lower t ⌝ }
 {
     minus(t, RAISE)
@@ -64,7 +70,7 @@ fn time(t: u64) -> i64
 
 // Early arrival - H.
 fn hold_slack(arrival: u64, hold: u32) -> i64
-    requires { ⌜ arrival < 9223372036854775808 ⌝ }
+    requires { ⌜ arrival < SIGNED ⌝ }
     ensures { λ r. ⌜ r ≡ holdBy hold (lower arrival) ⌝ }
 {
     minus(arrival, RAISE + (hold as u64))
@@ -72,21 +78,21 @@ fn hold_slack(arrival: u64, hold: u32) -> i64
 
 // Tc - S - late arrival.
 fn setup_slack(arrival: u64, cycle: u32, setup: u32) -> i64
-    requires { ⌜ arrival < 9223372036854775808 ⌝ }
+    requires { ⌜ arrival < SIGNED ⌝ }
     ensures { λ r. ⌜ r ≡ setupBy cycle setup (lower arrival) ⌝ }
 {
     minus(RAISE + (cycle as u64) - (setup as u64), arrival)
 }
 
 fn time_or_mark(some: bool, t: u64) -> i64
-    requires { ⌜ (some ≡ true → t < 9223372036854775808) ⌝ }
+    requires { ⌜ (some ≡ true → t < SIGNED) ⌝ }
     ensures { λ r. ⌜ r ≡ orMark (λ t. t) (whenIf some t) ⌝ }
 {
     if some { time(t) } else { MARK }
 }
 
 fn hold_or_mark(some: bool, arrival: u64, hold: u32) -> i64
-    requires { ⌜ (some ≡ true → arrival < 9223372036854775808) ⌝ }
+    requires { ⌜ (some ≡ true → arrival < SIGNED) ⌝ }
     ensures { λ r. ⌜ r ≡ orMark (holdBy hold) (whenIf some arrival) ⌝ }
 {
     if some {
@@ -97,7 +103,7 @@ fn hold_or_mark(some: bool, arrival: u64, hold: u32) -> i64
 }
 
 fn setup_or_mark(some: bool, arrival: u64, cycle: u32, setup: u32) -> i64
-    requires { ⌜ (some ≡ true → arrival < 9223372036854775808) ⌝ }
+    requires { ⌜ (some ≡ true → arrival < SIGNED) ⌝ }
     ensures { λ r. ⌜ r ≡ orMark (setupBy cycle setup) (whenIf some arrival) ⌝ }
 {
     if some {
@@ -119,7 +125,7 @@ fn hold_missed(some: bool, arrival: u64, hold: u32) -> bool
 }
 
 fn setup_missed(some: bool, arrival: u64, cycle: u32, setup: u32) -> bool
-    requires { ⌜ (some ≡ true → arrival < 9223372036854775808) ⌝ }
+    requires { ⌜ (some ≡ true → arrival < SIGNED) ⌝ }
     ensures { λ r. ⌜ r ≡ missed (setupBy cycle setup) (whenIf some arrival) ⌝ }
 {
     if some {
@@ -159,7 +165,7 @@ fn write_six(
     results: &mut [i64],
 )
     requires { ⌜ Tellable a ⌝ }
-    requires { ⌜ (sooner < 9223372036854775808) × (later < 9223372036854775808) ⌝ }
+    requires { ⌜ (sooner < SIGNED) × (later < SIGNED) ⌝ }
     requires { ⌜ at + 6 ≤ length (now results) ⌝ }
     ensures { λ r. ⌜ now (results .exit) ≡ sets (now (results .entry)) at (sixOf sooner later a cycle setup hold) ⌝ }
 {
@@ -175,21 +181,23 @@ fn write_six(
 fn write_one(
     bytes: &[u8],
     image: Image,
-    source: &[u16; 2048],
-    late: &[u32; 2048],
-    early: &[u32; 2048],
-    first: &[u16; 513],
-    later: &[u64; 512],
-    sooner: &[u64; 512],
+    source: &[u16; ARCS],
+    late: &[u32; ARCS],
+    early: &[u32; ARCS],
+    first: &[u16; FIRSTS],
+    later: &[u64; NODES],
+    sooner: &[u64; NODES],
     i: usize,
     m: Missed,
     results: &mut [i64],
 ) -> Missed
-    requires { ⌜ Writable (now bytes) image (now source) (now late) (now early) (now first) (now later) (now sooner) ⌝ }
-    requires { ⌜ 6 * image .synchronizers ≤ length (now results) ⌝ }
-    requires { ⌜ i < image .synchronizers ⌝ }
-    requires { ⌜ (m .setups ≤ i) × (m .holds ≤ i) ⌝ }
-    ensures { λ r. ⌜ Added (circuitOf (now (bytes .entry))) (λ k. lower (getD (now (later .entry)) k 0)) (λ k. lower (getD (now (sooner .entry)) k 0)) i (now (results .entry)) (now (results .exit)) m r ⌝ }
+    ghost { Circuit }
+    requires { λ c. ⌜ circuitOf (now bytes) ≡ c ⌝ }
+    requires { λ c. ⌜ Writable (now bytes) image (now source) (now late) (now early) (now first) (now later) (now sooner) ⌝ }
+    requires { λ c. ⌜ 6 * image .synchronizers ≤ length (now results) ⌝ }
+    requires { λ c. ⌜ i < image .synchronizers ⌝ }
+    requires { λ c. ⌜ (m .setups ≤ i) × (m .holds ≤ i) ⌝ }
+    ensures { λ c r. ⌜ Added c (lowered (timesOf (now (later .entry)))) (lowered (timesOf (now (sooner .entry)))) i (now (results .entry)) (now (results .exit)) m r ⌝ }
 {
     let s = Synchronizer::read(bytes, image.layout, i as u32);
     let a = arrivals_of(source, late, early, image.cycle, first, later, sooner, i);
@@ -210,17 +218,19 @@ fn write_one(
 pub(crate) fn write_results(
     bytes: &[u8],
     image: Image,
-    source: &[u16; 2048],
-    late: &[u32; 2048],
-    early: &[u32; 2048],
-    first: &[u16; 513],
-    later: &[u64; 512],
-    sooner: &[u64; 512],
+    source: &[u16; ARCS],
+    late: &[u32; ARCS],
+    early: &[u32; ARCS],
+    first: &[u16; FIRSTS],
+    later: &[u64; NODES],
+    sooner: &[u64; NODES],
     results: &mut [i64],
 ) -> Missed
-    requires { ⌜ Writable (now bytes) image (now source) (now late) (now early) (now first) (now later) (now sooner) ⌝ }
-    requires { ⌜ 6 * image .synchronizers ≤ length (now results) ⌝ }
-    ensures { λ r. ⌜ Written (circuitOf (now (bytes .entry))) (λ k. lower (getD (now (later .entry)) k 0)) (λ k. lower (getD (now (sooner .entry)) k 0)) (now (results .entry)) (now (results .exit)) r ⌝ }
+    ghost { Circuit }
+    requires { λ c. ⌜ circuitOf (now bytes) ≡ c ⌝ }
+    requires { λ c. ⌜ Writable (now bytes) image (now source) (now late) (now early) (now first) (now later) (now sooner) ⌝ }
+    requires { λ c. ⌜ 6 * image .synchronizers ≤ length (now results) ⌝ }
+    ensures { λ c r. ⌜ Written c (lowered (timesOf (now (later .entry)))) (lowered (timesOf (now (sooner .entry)))) (now (results .entry)) (now (results .exit)) r ⌝ }
 {
     let l = image.synchronizers as usize;
     let mut missed = Missed {

@@ -7,14 +7,19 @@ ghost use mathlib.Core.Logic.{_≢_};
 ghost use Prim.Native.Nat.{ℕ, _+_, _-_, _*_, _≤_, _<_};
 ghost use lib.IntN.{subℕ};
 ghost use lib.ListN.{length, getD, drop};
-ghost use Rattle.tables.specs.Net.{timesOf};
-ghost use Rattle.tables.specs.Parents.{ParentsIn};
-ghost use Rattle.timing.specs.Ring.{Repeats, Lowest, routeBack, written, leads, turned, Turned, Climbed, Closed};
+ghost use Rattle.tables.specs.inside.Net.{timesOf};
+ghost use Rattle.tables.specs.inside.Parents.{Notes, notesOf, ParentsIn};
+ghost use Rattle.timing.specs.inside.Ring.{Repeats, LowestBetween, routeBack, written, leads, turned, Turned, WalkedBack, Closed};
+ghost use Rattle.ticks.specs.inside.Raised.{FAR};
+ghost use Rattle.tables.specs.inside.Sizes.{ARCS, FIRSTS, NODES};
 use crate::arrive::counted;
 use crate::arrive::index;
 use crate::arrive::narrow;
 use crate::arrive::wide;
 use crate::signed::minus;
+use crate::sizes::ARCS;
+use crate::sizes::FIRSTS;
+use crate::sizes::NODES;
 
 pub(crate) struct Ring {
     pub(crate) count: u32,
@@ -27,12 +32,12 @@ struct Stretch {
 }
 
 // The first node that comes a second time: more nodes are walked than there are. A node that has come has its place noted, plus one.
-fn repeat(nodes: &[u16; 513], l: usize) -> Stretch
-    requires { ⌜ l ≤ 512 ⌝ }
+fn repeat(nodes: &[u16; FIRSTS], l: usize) -> Stretch
+    requires { ⌜ l ≤ NODES ⌝ }
     requires { ⌜ ((d : ℕ) → d ≤ l → getD (now nodes) d 0 < l) ⌝ }
     ensures { λ r. ⌜ Repeats (timesOf (now (nodes .entry))) l (r .first) (r .second) ⌝ }
 {
-    let mut places = [0u16; 512];
+    let mut places = [0u16; NODES];
     let mut d = 0;
     while d <= l {
         let node = index(nodes[d]);
@@ -51,9 +56,9 @@ fn repeat(nodes: &[u16; 513], l: usize) -> Stretch
 }
 
 // The place of the lowest node after `first`, up to `second`
-fn lowest(nodes: &[u16; 513], first: usize, second: usize) -> usize
-    requires { ⌜ (first < second) × (second ≤ 512) ⌝ }
-    ensures { λ r. ⌜ Lowest (timesOf (now (nodes .entry))) first second r ⌝ }
+fn lowest(nodes: &[u16; FIRSTS], first: usize, second: usize) -> usize
+    requires { ⌜ (first < second) × (second ≤ NODES) ⌝ }
+    ensures { λ r. ⌜ LowestBetween (timesOf (now (nodes .entry))) first second r ⌝ }
 {
     let mut low = first + 1;
     let mut x = low;
@@ -73,8 +78,8 @@ fn word(x: u16) -> u32
 }
 
 // Writes `count` arcs in order of travel, from place `high` of the walk back on, into the buffer at `at`.
-fn write(trail: &[u16; 512], high: usize, count: usize, at: usize, arcs: &mut [u32])
-    requires { ⌜ (count ≤ high) × (high ≤ 512) ⌝ }
+fn write(trail: &[u16; NODES], high: usize, count: usize, at: usize, arcs: &mut [u32])
+    requires { ⌜ (count ≤ high) × (high ≤ NODES) ⌝ }
     requires { ⌜ at + count ≤ length (now arcs) ⌝ }
     ensures { λ _. ⌜ now (arcs .exit) ≡ written (timesOf (now (trail .entry))) high count at (now (arcs .entry)) ⌝ }
 {
@@ -86,9 +91,9 @@ fn write(trail: &[u16; 512], high: usize, count: usize, at: usize, arcs: &mut [u
 }
 
 // The sum of the leads of the arcs from place `from` up to `to` of the walk back
-fn total(trail: &[u16; 512], lead: &[u32; 2048], from: usize, to: usize) -> u64
-    requires { ⌜ (from ≤ to) × (to ≤ 512) ⌝ }
-    requires { ⌜ ((d : ℕ) → d < to → getD (now trail) d 0 < 2048) ⌝ }
+fn total(trail: &[u16; NODES], lead: &[u32; ARCS], from: usize, to: usize) -> u64
+    requires { ⌜ (from ≤ to) × (to ≤ NODES) ⌝ }
+    requires { ⌜ ((d : ℕ) → d < to → getD (now trail) d 0 < ARCS) ⌝ }
     ensures { λ r. ⌜ r ≡ leads (timesOf (now (lead .entry))) (routeBack (timesOf (now (trail .entry))) to (to - from)) ⌝ }
     ensures { λ r. ⌜ r ≤ (to - from) * 4294967296 ⌝ }
 {
@@ -102,8 +107,8 @@ fn total(trail: &[u16; 512], lead: &[u32; 2048], from: usize, to: usize) -> u64
 }
 
 // Writes the ring: from the lowest node to the repeated one, and from there to the lowest node.
-fn put(trail: &[u16; 512], first: usize, low: usize, second: usize, arcs: &mut [u32])
-    requires { ⌜ (first < low) × (low ≤ second) × (second ≤ 512) ⌝ }
+fn put(trail: &[u16; NODES], first: usize, low: usize, second: usize, arcs: &mut [u32])
+    requires { ⌜ (first < low) × (low ≤ second) × (second ≤ NODES) ⌝ }
     requires { ⌜ second - first ≤ length (now arcs) ⌝ }
     ensures { λ _. ⌜ now (arcs .exit) ≡ turned (timesOf (now (trail .entry))) first low second ++ drop (second - first) (now (arcs .entry)) ⌝ }
 {
@@ -113,23 +118,23 @@ fn put(trail: &[u16; 512], first: usize, low: usize, second: usize, arcs: &mut [
 
 // As many cycles as the ring has arcs
 fn cycles(count: usize, cycle: u32) -> u64
-    requires { ⌜ count ≤ 512 ⌝ }
-    ensures { λ r. ⌜ (r ≡ count * cycle) × (r < 4611686018427387904) ⌝ }
+    requires { ⌜ count ≤ NODES ⌝ }
+    ensures { λ r. ⌜ (r ≡ count * cycle) × (r < FAR) ⌝ }
 {
     (count as u64) * wide(cycle)
 }
 
 // What the ring adds to a time
 fn gained(
-    trail: &[u16; 512],
-    lead: &[u32; 2048],
+    trail: &[u16; NODES],
+    lead: &[u32; ARCS],
     cycle: u32,
     first: usize,
     low: usize,
     second: usize,
 ) -> i64
-    requires { ⌜ (first < low) × (low ≤ second) × (second ≤ 512) ⌝ }
-    requires { ⌜ ((d : ℕ) → d < second → getD (now trail) d 0 < 2048) ⌝ }
+    requires { ⌜ (first < low) × (low ≤ second) × (second ≤ NODES) ⌝ }
+    requires { ⌜ ((d : ℕ) → d < second → getD (now trail) d 0 < ARCS) ⌝ }
     ensures { λ r. ⌜ r ≡ subℕ (leads (timesOf (now (lead .entry))) (turned (timesOf (now (trail .entry))) first low second)) ((second - first) * cycle) ⌝ }
 {
     let sum = total(trail, lead, first, low) + total(trail, lead, low, second);
@@ -138,16 +143,16 @@ fn gained(
 
 // Shows the first closed stretch of a walk back.
 fn show(
-    lead: &[u32; 2048],
+    lead: &[u32; ARCS],
     cycle: u32,
-    nodes: &[u16; 513],
-    trail: &[u16; 512],
+    nodes: &[u16; FIRSTS],
+    trail: &[u16; NODES],
     l: usize,
     arcs: &mut [u32],
 ) -> Ring
-    requires { ⌜ l ≤ 512 ⌝ }
+    requires { ⌜ l ≤ NODES ⌝ }
     requires { ⌜ ((d : ℕ) → d ≤ l → getD (now nodes) d 0 < l) ⌝ }
-    requires { ⌜ ((d : ℕ) → d < l → getD (now trail) d 0 < 2048) ⌝ }
+    requires { ⌜ ((d : ℕ) → d < l → getD (now trail) d 0 < ARCS) ⌝ }
     requires { ⌜ l ≤ length (now arcs) ⌝ }
     ensures { λ r. ⌜ Turned (timesOf (now (nodes .entry))) (timesOf (now (trail .entry))) (timesOf (now (lead .entry))) cycle l (r .count) (r .gain) (now (arcs .entry)) (now (arcs .exit)) ⌝ }
 {
@@ -165,19 +170,21 @@ fn show(
 // The walk back over parents, from synchronizer u. Says over how many arcs it went: l, or fewer where it came to one that departs at its
 // base.
 fn follow(
-    source: &[u16; 2048],
-    base: &[u64; 512],
-    departs: &[u64; 512],
-    parents: &[u16; 512],
+    source: &[u16; ARCS],
+    base: &[u64; NODES],
+    departs: &[u64; NODES],
+    parents: &[u16; NODES],
     l: usize,
     u: usize,
-    nodes: &mut [u16; 513],
-    trail: &mut [u16; 512],
+    nodes: &mut [u16; FIRSTS],
+    trail: &mut [u16; NODES],
 ) -> usize
-    requires { ⌜ (l ≤ 512) × (u < l) ⌝ }
-    requires { ⌜ (length (now nodes) ≡ 513) × (length (now trail) ≡ 512) ⌝ }
-    requires { ⌜ ParentsIn (timesOf (now source)) (timesOf (now parents)) (timesOf (now base)) (timesOf (now departs)) l ⌝ }
-    ensures { λ r. ⌜ Climbed (timesOf (now (source .entry))) (timesOf (now (parents .entry))) (timesOf (now (base .entry))) (timesOf (now (departs .entry))) l u r (timesOf (now (nodes .exit))) (timesOf (now (trail .exit))) ⌝ }
+    ghost { Notes }
+    requires { λ k. ⌜ notesOf (now source) (now parents) (now base) (now departs) ≡ k ⌝ }
+    requires { λ k. ⌜ (l ≤ NODES) × (u < l) ⌝ }
+    requires { λ k. ⌜ (length (now nodes) ≡ FIRSTS) × (length (now trail) ≡ NODES) ⌝ }
+    requires { λ k. ⌜ ParentsIn k l ⌝ }
+    ensures { λ k r. ⌜ WalkedBack k l u r (timesOf (now (nodes .exit))) (timesOf (now (trail .exit))) ⌝ }
 {
     let mut node = narrow(u);
     let mut d: usize = 0;
@@ -211,25 +218,27 @@ fn due(n: usize, l: usize) -> bool
 // the buffer, from the lowest-numbered synchronizer on.
 pub(crate) fn close(
     n: usize,
-    source: &[u16; 2048],
-    lead: &[u32; 2048],
+    source: &[u16; ARCS],
+    lead: &[u32; ARCS],
     cycle: u32,
-    base: &[u64; 512],
-    departs: &[u64; 512],
-    parents: &[u16; 512],
+    base: &[u64; NODES],
+    departs: &[u64; NODES],
+    parents: &[u16; NODES],
     l: usize,
     u: usize,
     arcs: &mut [u32],
 ) -> Ring
-    requires { ⌜ (0 < n) × (l ≤ 512) × (u < l) × (l ≤ length (now arcs)) ⌝ }
-    requires { ⌜ ParentsIn (timesOf (now source)) (timesOf (now parents)) (timesOf (now base)) (timesOf (now departs)) l ⌝ }
-    ensures { λ r. ⌜ Closed (timesOf (now (source .entry))) (timesOf (now (parents .entry))) (timesOf (now (base .entry))) (timesOf (now (departs .entry))) (timesOf (now (lead .entry))) cycle l u n (r .count) (r .gain) (now (arcs .entry)) (now (arcs .exit)) ⌝ }
+    ghost { Notes }
+    requires { λ k. ⌜ notesOf (now source) (now parents) (now base) (now departs) ≡ k ⌝ }
+    requires { λ k. ⌜ (0 < n) × (l ≤ NODES) × (u < l) × (l ≤ length (now arcs)) ⌝ }
+    requires { λ k. ⌜ ParentsIn k l ⌝ }
+    ensures { λ k r. ⌜ Closed k (timesOf (now (lead .entry))) cycle l u n (r .count) (r .gain) (now (arcs .entry)) (now (arcs .exit)) ⌝ }
 {
     if !due(n, l) {
         return Ring { count: 0, gain: 0 };
     }
-    let mut nodes = [0u16; 513];
-    let mut trail = [0u16; 512];
+    let mut nodes = [0u16; FIRSTS];
+    let mut trail = [0u16; NODES];
     let long = follow(source, base, departs, parents, l, u, &mut nodes, &mut trail);
     if long < l {
         return Ring { count: 0, gain: 0 };

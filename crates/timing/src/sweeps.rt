@@ -3,13 +3,17 @@
 ghost use mathlib.Core.Path.{_≡_};
 ghost use Prim.Native.Nat.{_<_, _≤_};
 ghost use lib.ListN.{length};
-ghost use Rattle.tables.specs.Net.{sideOf, timesOf, arcsOf, webOf};
-ghost use Rattle.tables.specs.Raise.{raised, Lifted, Room, Sweepable};
-ghost use Rattle.tables.specs.Passing.{toOrFro, Rested, Sweep, Settling};
-ghost use Rattle.timing.specs.Ready.{SweepsAt};
+ghost use Rattle.tables.specs.inside.Net.{Net, sideOf, timesOf, arcsOf, webOf};
+ghost use Rattle.tables.specs.inside.Raise.{raised, Lifted, Room, Sweepable};
+ghost use Rattle.tables.specs.inside.Passing.{toOrFro, Rested, Sweep, Settling};
+ghost use Rattle.timing.specs.inside.Ready.{SweepsAt};
+ghost use Rattle.tables.specs.inside.Sizes.{NODES, RAISES};
 use crate::arrive::arrival;
 use crate::arrive::greater;
 use crate::arrive::index;
+use crate::sizes::ARCS;
+use crate::sizes::FIRSTS;
+use crate::sizes::NODES;
 
 // Place x of a pass over l places.
 pub(crate) fn turn(forth: bool, l: usize, x: usize) -> usize
@@ -22,16 +26,18 @@ pub(crate) fn turn(forth: bool, l: usize, x: usize) -> usize
 // What synchronizer i is raised to: a latch that an arc enters to the greater of its arrival and its departure, any other to its departure.
 pub(crate) fn rises_to(
     late: bool,
-    source: &[u16; 2048],
-    lead: &[u32; 2048],
+    source: &[u16; ARCS],
+    lead: &[u32; ARCS],
     cycle: u32,
-    first: &[u16; 513],
-    latch: &[u8; 512],
+    first: &[u16; FIRSTS],
+    latch: &[u8; NODES],
     i: usize,
-    departs: &[u64; 512],
+    departs: &[u64; NODES],
 ) -> u64
-    requires { ⌜ SweepsAt (webOf (arcsOf (now source) (now lead) cycle) (now first) (now latch)) (timesOf (now departs)) i ⌝ }
-    ensures { λ r. ⌜ r ≡ raised (sideOf late) (webOf (arcsOf (now (source .entry)) (now (lead .entry)) cycle) (now (first .entry)) (now (latch .entry))) (timesOf (now (departs .entry))) i ⌝ }
+    ghost { Net }
+    requires { λ w. ⌜ webOf (arcsOf (now source) (now lead) cycle) (now first) (now latch) ≡ w ⌝ }
+    requires { λ w. ⌜ SweepsAt w (timesOf (now departs)) i ⌝ }
+    ensures { λ w r. ⌜ r ≡ raised (sideOf late) w (timesOf (now (departs .entry))) i ⌝ }
 {
     if latch[i] != 1 {
         return departs[i];
@@ -50,16 +56,18 @@ pub(crate) fn rises_to(
 // Raises synchronizer i. Says whether that made it depart later.
 fn raise(
     late: bool,
-    source: &[u16; 2048],
-    lead: &[u32; 2048],
+    source: &[u16; ARCS],
+    lead: &[u32; ARCS],
     cycle: u32,
-    first: &[u16; 513],
-    latch: &[u8; 512],
+    first: &[u16; FIRSTS],
+    latch: &[u8; NODES],
     i: usize,
-    departs: &mut [u64; 512],
+    departs: &mut [u64; NODES],
 ) -> bool
-    requires { ⌜ SweepsAt (webOf (arcsOf (now source) (now lead) cycle) (now first) (now latch)) (timesOf (now departs)) i ⌝ }
-    ensures { λ r. ⌜ Lifted (sideOf late) (webOf (arcsOf (now (source .entry)) (now (lead .entry)) cycle) (now (first .entry)) (now (latch .entry))) i (now (departs .entry)) r (now (departs .exit)) ⌝ }
+    ghost { Net }
+    requires { λ w. ⌜ webOf (arcsOf (now source) (now lead) cycle) (now first) (now latch) ≡ w ⌝ }
+    requires { λ w. ⌜ SweepsAt w (timesOf (now departs)) i ⌝ }
+    ensures { λ w r. ⌜ Lifted (sideOf late) w i (now (departs .entry)) r (now (departs .exit)) ⌝ }
 {
     let time = rises_to(late, source, lead, cycle, first, latch, i, departs);
     let before = departs[i];
@@ -70,20 +78,22 @@ fn raise(
 // One pass, from a place on: what lies before it cannot be raised. Says at which place one was raised last, or l.
 fn sweep(
     late: bool,
-    source: &[u16; 2048],
-    lead: &[u32; 2048],
+    source: &[u16; ARCS],
+    lead: &[u32; ARCS],
     cycle: u32,
-    first: &[u16; 513],
-    latch: &[u8; 512],
+    first: &[u16; FIRSTS],
+    latch: &[u8; NODES],
     l: usize,
     forth: bool,
     start: usize,
-    departs: &mut [u64; 512],
+    departs: &mut [u64; NODES],
 ) -> usize
-    requires { ⌜ Sweepable (webOf (arcsOf (now source) (now lead) cycle) (now first) (now latch)) l ⌝ }
-    requires { ⌜ Room l l (timesOf (now departs)) × (length (now departs) ≡ 512) ⌝ }
-    requires { ⌜ (start ≤ l) × Rested (sideOf late) (webOf (arcsOf (now source) (now lead) cycle) (now first) (now latch)) (timesOf (now departs)) (toOrFro forth l) start ⌝ }
-    ensures { λ r. ⌜ Sweep (sideOf late) (webOf (arcsOf (now (source .entry)) (now (lead .entry)) cycle) (now (first .entry)) (now (latch .entry))) l (timesOf (now (departs .entry))) (toOrFro forth l) l (now (departs .exit)) r ⌝ }
+    ghost { Net }
+    requires { λ w. ⌜ webOf (arcsOf (now source) (now lead) cycle) (now first) (now latch) ≡ w ⌝ }
+    requires { λ w. ⌜ Sweepable w l ⌝ }
+    requires { λ w. ⌜ Room l l (timesOf (now departs)) × (length (now departs) ≡ NODES) ⌝ }
+    requires { λ w. ⌜ (start ≤ l) × Rested (sideOf late) w (timesOf (now departs)) (toOrFro forth l) start ⌝ }
+    ensures { λ w r. ⌜ Sweep (sideOf late) w l (timesOf (now (departs .entry))) (toOrFro forth l) l (now (departs .exit)) r ⌝ }
 {
     let mut last = l;
     let mut x = start;
@@ -104,17 +114,19 @@ const PATIENCE: usize = 6;
 // afterwards it need not try again.
 pub(crate) fn settle(
     late: bool,
-    source: &[u16; 2048],
-    lead: &[u32; 2048],
+    source: &[u16; ARCS],
+    lead: &[u32; ARCS],
     cycle: u32,
-    first: &[u16; 513],
-    latch: &[u8; 512],
+    first: &[u16; FIRSTS],
+    latch: &[u8; NODES],
     l: usize,
-    departs: &mut [u64; 512],
+    departs: &mut [u64; NODES],
 ) -> bool
-    requires { ⌜ Sweepable (webOf (arcsOf (now source) (now lead) cycle) (now first) (now latch)) l ⌝ }
-    requires { ⌜ Room l 265216 (timesOf (now departs)) × (length (now departs) ≡ 512) ⌝ }
-    ensures { λ r. ⌜ Settling (sideOf late) (webOf (arcsOf (now (source .entry)) (now (lead .entry)) cycle) (now (first .entry)) (now (latch .entry))) l (timesOf (now (departs .entry))) (now (departs .exit)) r ⌝ }
+    ghost { Net }
+    requires { λ w. ⌜ webOf (arcsOf (now source) (now lead) cycle) (now first) (now latch) ≡ w ⌝ }
+    requires { λ w. ⌜ Sweepable w l ⌝ }
+    requires { λ w. ⌜ Room l RAISES (timesOf (now departs)) × (length (now departs) ≡ NODES) ⌝ }
+    ensures { λ w r. ⌜ Settling (sideOf late) w l (timesOf (now (departs .entry))) (now (departs .exit)) r ⌝ }
 {
     let mut forth = true;
     let mut start: usize = 0;

@@ -1,5 +1,5 @@
 // Runs timing and path on circuits whose answers are known, so that the two calls can be held against a second source.
-// tests/timing_cases.py makes the circuits, works out by document 01 what each call must give, and writes both files: stdin and stdout.
+// tests/timing_cases.py makes the circuits, works out by docs/RULES.md what each call must give, and writes both files: stdin and stdout.
 //
 // Standard input holds frames. A frame is six words of 32 bits: the length of a name, the length of an image, how many places of a result
 // buffer and of an arc buffer are lent, and the first and the end of the synchronizer numbers that paths are asked for. The bytes of the

@@ -1,6 +1,6 @@
-//! Document 01 in plain Rust, without anything of the library.
+//! The rules in plain Rust, without anything of the library.
 //!
-//! It was written from document 01 and from the constraints GC3 and GC4 of document 003 alone. The parts stand in document 01's
+//! It was written from the rules alone, as docs/RULES.md restates them, and not from the library's code. The parts stand in their
 //! order: the image, the numbers of refusal, the constraints, the calls. The last part judges a ring that someone else shows.
 #![forbid(unsafe_code)]
 
@@ -168,7 +168,7 @@ impl Circuit {
         let cycle = i64::from(tables.numbers.cycle);
         let phases: Vec<[i64; 2]> = records(tables.phases).map(|phase| phase.map(i64::from)).collect();
         let cells: Vec<[u32; 6]> = records(tables.synchronizers).collect();
-        // Equation 1.
+        // The shift.
         let shift = |i: usize, j: usize| {
             let between = phases[j][0] - phases[i][0];
             if i < j {

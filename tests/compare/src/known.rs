@@ -1,4 +1,4 @@
-//! P1 to P10 of document 01, with the numbers that are printed there. None was taken from a program's output.
+//! P1 to P10, with the numbers that were given with the rules. None was taken from a program's output.
 #![forbid(unsafe_code)]
 
 use crate::images::Plan;
@@ -6,7 +6,7 @@ use crate::independent::{check, judge_ring, path, report, timing, Numbers, Refus
 
 type Window = [u32; 2];
 
-/// Document 01's ring: latch delays, then the windows of arc 0 and arc 1.
+/// The ring of P1: latch delays, then the windows of arc 0 and arc 1.
 fn ring(delays: Window, first: Window, second: Window) -> Vec<u8> {
     Plan {
         cycle: 100,
@@ -113,7 +113,7 @@ fn way(image: &[u8], synchronizer: u32) -> (u32, Vec<u32>) {
     (launch, arcs)
 }
 
-/// Holds the independent program against document 01, and gives how many numbers and texts were held. It panics where one differs.
+/// Holds the independent program against the numbers given with the rules, and gives how many numbers and texts were held. It panics where one differs.
 pub fn test() -> usize {
     let mut held = 0;
     macro_rules! same {

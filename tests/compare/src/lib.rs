@@ -1,4 +1,4 @@
-//! Document 01 in plain Rust, the library behind its C interface, and circuits to hold one against the other.
+//! The rules in plain Rust, the library behind its C interface, and circuits to hold one against the other.
 
 pub mod images;
 pub mod independent;

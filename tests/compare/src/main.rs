@@ -568,7 +568,7 @@ fn run(arguments: &[&str]) -> Option<Result<String, String>> {
         _ => return None,
     };
     println!("seed {seed:#x}, {percent} percent of the circuits by chance");
-    println!("independent program: {} numbers and texts of P1 to P10 are as document 01 prints them", known::test());
+    println!("independent program: {} numbers and texts of P1 to P10 are as given with the rules", known::test());
     let outcome = compare(seed, percent, turn).and_then(|comparison| {
         // A part of the circuits need not show everything; of several processes each must see its share.
         table(&comparison, if percent < 100 { 0 } else { (LEAST_SEEN + turn.of - 1) / turn.of })?;

@@ -7,11 +7,11 @@ use mir.Syntax.{w64}
 use mir.Val.{SFits}
 use borrow.Author.Needs.{needs}
 use Rattle.ticks.proofs.Order.{ltZ-true}
-use Rattle.ticks.proofs.Words.{Steps, worded, word-is, steps, cast-above}
+use Rattle.ticks.proofs.Words.{NegationSteps, worded, word-is, steps, cast-above}
 use Rattle.timing_cases.proofs.size.Statement.{statement}
 use Rattle.timing_cases.proofs.size.Tie as tie
 
-below : (z : ℤ) → SFits w64 z → ltZ (worded z) (pos 0) ≡ true → Steps z
+below : (z : ℤ) → SFits w64 z → ltZ (worded z) (pos 0) ≡ true → NegationSteps z
 below z f t = steps z (ltZ-true z (pos 0) (rw (word-is z f) at t)) f
 
 add-result : tie.Need-add-result

@@ -1,6 +1,6 @@
 -- `word` reads the same word, whole where it lies within the image.
 use borrow.Author.Needs.{needs}
-use Rattle.image.proofs.Places.{fits-within}
+use Rattle.image.proofs.RecordPlaces.{fits-within}
 use Rattle.image.proofs.bytes.word.Statement.{statement}
 use Rattle.image.proofs.bytes.word.Tie as tie
 

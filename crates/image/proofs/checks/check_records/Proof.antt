@@ -6,6 +6,7 @@ use Rattle.image.specs.Rules.{breaksOf}
 use Rattle.image.specs.Checks.{recordsOf, refuseAt}
 use Rattle.image.specs.declared.rules.Rule.the-variants.{Synchronizers, Arcs, Order}
 use Rattle.image.specs.declared.checks.Checked.the-variants.{Good}
+use Rattle.image.proofs.FirstBad.{lowest-none}
 use Rattle.image.proofs.Tests.{both-iff}
 use borrow.Author.Needs.{needs}
 use Rattle.image.proofs.checks.check_records.Statement.{statement}
@@ -19,8 +20,10 @@ unfolding recordsOf
 returns c = rw (← c .before .before .lowest .ensures, lt-ltb _ _ (c .if1 .taken))
 
 -- where no phase is at fault, the other records decide
-after-phases : (c : tie.Else1) → (let bytes = c .before .before .before .before .args .bytes .now in let image = c .before .before .before .before .args .image in
-    recordsOf bytes image ≡ refuseAt (breaksOf bytes image Synchronizers) (image .synchronizers) 7 (refuseAt (breaksOf bytes image Arcs) (image .arcs) 8 (refuseAt (breaksOf bytes image Order) (image .arcs) 9 (Good image))))
+after-phases : (c : tie.Else1) → (let a = c .before .before .before .before .args in
+    let fails = breaksOf (a .bytes .now) (a .image) in
+    recordsOf (a .bytes .now) (a .image)
+    ≡ refuseAt (fails Synchronizers) (a .image .synchronizers) 7 (refuseAt (fails Arcs) (a .image .arcs) 8 (refuseAt (fails Order) (a .image .arcs) 9 (Good (a .image)))))
 unfolding recordsOf
 after-phases c = rw (← c .before .before .lowest .ensures, le-ltb _ _ (c .if1 .left))
 
@@ -32,11 +35,18 @@ arcs-good-requires c κs = search needs
 
 returns-2 : tie.Need-returns-2
 returns-2 c =
-    let image = c .before .before .before .before .before .before .before .args .image in
+    let phases = c .before .before .before in
+    let image = phases .before .before .before .before .args .image in
     let both = both-iff _ _ (λ h. h, λ h. h) (λ h. h, λ h. h) .0 (c .if2 .taken) in
-    let synchronizers = c .before .before .synchronizers-good .ensures (both .0) in
     let arcs = c .before .arcs-good .ensures (both .1) in
-    rw (after-phases (c .before .before .before), synchronizers, le-ltb _ _ (le-refl (image .synchronizers)), arcs .0, arcs .1, le-ltb _ _ (le-refl (image .arcs)))
+    rw (
+      after-phases phases,
+      lowest-none _ _ (c .before .before .synchronizers-good .ensures (both .0)),
+      le-ltb _ _ (le-refl (image .synchronizers)),
+      lowest-none _ _ (arcs .0),
+      lowest-none _ _ (arcs .1),
+      le-ltb _ _ (le-refl (image .arcs)),
+    )
 
 lowest-requires-2 : tie.Need-lowest-requires-2
 lowest-requires-2 c κs = search needs
@@ -44,20 +54,32 @@ lowest-requires-2 c κs = search needs
 returns-3 : tie.Need-returns-3
 returns-3 c = rw (after-phases (c .before .before .before .before .before .before), ← c .before .before .lowest2 .ensures, lt-ltb _ _ (c .if3 .taken))
 
+-- where no synchronizer is at fault either
+after-synchronizers : (c : tie.Else3) → (let a = c .before .before .before .before .before .before .before .before .before .before .args in
+    let fails = breaksOf (a .bytes .now) (a .image) in
+    recordsOf (a .bytes .now) (a .image) ≡ refuseAt (fails Arcs) (a .image .arcs) 8 (refuseAt (fails Order) (a .image .arcs) 9 (Good (a .image))))
+after-synchronizers c =
+    rw (after-phases (c .before .before .before .before .before .before), ← c .before .before .lowest2 .ensures, le-ltb _ _ (c .if3 .left))
+
 lowest-requires-3 : tie.Need-lowest-requires-3
 lowest-requires-3 c κs = search needs
 
 returns-4 : tie.Need-returns-4
-returns-4 c = rw (after-phases (c .before .before .before .before .before .before .before .before .before), ← c .before .before .before .before .before .lowest2 .ensures, le-ltb _ _ (c .before .before .before .if3 .left), ← c .before .before .lowest3 .ensures, lt-ltb _ _ (c .if4 .taken))
+returns-4 c = rw (after-synchronizers (c .before .before .before), ← c .before .before .lowest3 .ensures, lt-ltb _ _ (c .if4 .taken))
+
+-- where no arc's fields are
+after-arcs : (c : tie.Else4) → (let a = c .before .before .before .before .before .before .before .before .before .before .before .before .before .args in
+    recordsOf (a .bytes .now) (a .image) ≡ refuseAt (breaksOf (a .bytes .now) (a .image) Order) (a .image .arcs) 9 (Good (a .image)))
+after-arcs c = rw (after-synchronizers (c .before .before .before), ← c .before .before .lowest3 .ensures, le-ltb _ _ (c .if4 .left))
 
 lowest-requires-4 : tie.Need-lowest-requires-4
 lowest-requires-4 c κs = search needs
 
 returns-5 : tie.Need-returns-5
-returns-5 c = rw (after-phases (c .before .before .before .before .before .before .before .before .before .before .before .before), ← c .before .before .before .before .before .before .before .before .lowest2 .ensures, le-ltb _ _ (c .before .before .before .before .before .before .if3 .left), ← c .before .before .before .before .before .lowest3 .ensures, le-ltb _ _ (c .before .before .before .if4 .left), ← c .before .before .lowest4 .ensures, lt-ltb _ _ (c .if5 .taken))
+returns-5 c = rw (after-arcs (c .before .before .before), ← c .before .before .lowest4 .ensures, lt-ltb _ _ (c .if5 .taken))
 
 returns-6 : tie.Need-returns-6
-returns-6 c = rw (after-phases (c .before .before .before .before .before .before .before .before .before .before .before .before), ← c .before .before .before .before .before .before .before .before .lowest2 .ensures, le-ltb _ _ (c .before .before .before .before .before .before .if3 .left), ← c .before .before .before .before .before .lowest3 .ensures, le-ltb _ _ (c .before .before .before .if4 .left), ← c .before .before .lowest4 .ensures, le-ltb _ _ (c .if5 .left))
+returns-6 c = rw (after-arcs (c .before .before .before), ← c .before .before .lowest4 .ensures, le-ltb _ _ (c .if5 .left))
 
 pub check-records-spec : {M : Type 1} → statement M
 check-records-spec =

@@ -1,5 +1,5 @@
 -- `found` gives the record of the table where it fits, and the end where not.
-use mathlib.Core.Path.{_≡_, refl, ap, sym, _∙_}
+use mathlib.Core.Path.{_≡_, ap, sym, _∙_}
 use borrow.Author.Needs.{needs}
 use Rattle.image.specs.Reader.{recordFrom, recordOrEnd, foundOf}
 use Rattle.image.specs.declared.reader.Table.{Table}

@@ -2,7 +2,7 @@
 use mathlib.Core.Path.{refl}
 use Prim.Native.Nat.{_*_, _≤_}
 use native.Mathlib.Omega.{arith}
-use Rattle.image.proofs.Places.{product-room}
+use Rattle.image.proofs.RecordPlaces.{product-room}
 use Rattle.image.proofs.records.place.Statement.{statement}
 use Rattle.image.proofs.records.place.Tie as tie
 

@@ -8,7 +8,6 @@ use borrow.Author.Needs.{needs}
 use Rattle.image.specs.Records.{arcAt}
 use Rattle.image.specs.Rules.{badArc, badOrder}
 use Rattle.image.proofs.Keys.{keyOf, in-order, to-below}
-use Rattle.image.proofs.Lowest.{lowest-none}
 use Rattle.image.proofs.Tests.{false-true, or-iff, ltb-iff}
 use Rattle.image.proofs.rules.arcs_good.Statement.{statement}
 use Rattle.image.proofs.rules.arcs_good.Tie as tie
@@ -87,7 +86,7 @@ returns-2 : tie.Need-returns-2 Inv-loop μ-loop
 returns-2 c =
     let r = c .before .loop in
     let whole = c .loop-test .left in
-    λ _. (lowest-none _ _ (λ j l. r .inv .1 j (omega (arith, whole))), lowest-none _ _ (λ j l. r .inv .2 j (omega (arith, whole))))
+    λ _. (λ j l. r .inv .1 j (omega (arith, whole)), λ j l. r .inv .2 j (omega (arith, whole)))
 
 pub arcs-good-spec : {M : Type 1} → statement M
 arcs-good-spec =

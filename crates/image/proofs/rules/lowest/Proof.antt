@@ -6,7 +6,7 @@ use native.Mathlib.Omega.{arith}
 use borrow.Author.Count.{below-none, below-more}
 use borrow.Author.Needs.{needs}
 use Rattle.image.specs.Rules.{breaksOf}
-use Rattle.image.proofs.Lowest.{lowest-eq}
+use Rattle.image.proofs.FirstBad.{lowest-eq}
 use Rattle.image.proofs.rules.lowest.Statement.{statement}
 use Rattle.image.proofs.rules.lowest.Tie as tie
 

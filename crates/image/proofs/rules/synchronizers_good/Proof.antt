@@ -6,7 +6,6 @@ use native.Mathlib.Omega.{arith}
 use borrow.Author.Count.{below-none, below-more}
 use borrow.Author.Needs.{needs}
 use Rattle.image.specs.Rules.{badSynchronizer}
-use Rattle.image.proofs.Lowest.{lowest-none}
 use Rattle.image.proofs.Tests.{false-true}
 use Rattle.image.proofs.rules.synchronizers_good.Statement.{statement}
 use Rattle.image.proofs.rules.synchronizers_good.Tie as tie
@@ -42,7 +41,7 @@ loop-again c =
     (omega arith, below-more _ _ (k .before .before .loop .inv .1) (rw (← k .of .ensures) (sym (c .before .bad-window .ensures) ∙ c .if1 .left)))
 
 returns-2 : tie.Need-returns-2 Inv-loop μ-loop
-returns-2 c = λ _. lowest-none _ _ (λ j l. c .before .loop .inv .1 j (omega (arith, c .loop-test .left)))
+returns-2 c = λ _ j l. c .before .loop .inv .1 j (omega (arith, c .loop-test .left))
 
 pub synchronizers-good-spec : {M : Type 1} → statement M
 synchronizers-good-spec =

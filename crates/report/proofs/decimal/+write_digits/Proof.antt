@@ -1,11 +1,9 @@
 -- `write_digits` writes a number's tens by a call of itself, and then its ones. The measure is the number.
 use mathlib.Core.Path.{_∙_}
-use mathlib.Core.List.{[], _∷_}
 use native.Mathlib.Omega.{arith}
-use Rattle.report.specs.Decimal.{digit, digits}
 use Rattle.report.proofs.Digits.{digits-one, digits-more, digits-some}
 use Rattle.report.proofs.Writes.{wrote-then, wrote-long, room-first, room-rest}
-use Prim.Native.Nat.{ℕ, _/_, _%_, _<_}
+use Prim.Native.Nat.{ℕ, _<_}
 use borrow.Fn.Kinds.{In}
 use borrow.Fn.PlainCycle.{Measures, is, falls, and}
 use Rattle.report.proofs.decimal.write_digits.Reads as write-digits
@@ -31,113 +29,9 @@ write-digits-below t =
     (falls 1 write-digits-kinds.ps _<_ μ-write-digits t)
     write-digits.Pre
 
-write-digits-digit-of-requires : (t : ℕ) → write-digits-lts.Need-digit-of-requires (
-  digit-of-reads.Asked,
-  digit-of-reads.Learnt,
-  write-byte-reads.Asked,
-  write-byte-reads.Learnt,
-  write-digits-below t,
-  write-digits.Post,
-) (write-digits-at t) write-digits.Post
-write-digits-digit-of-requires t c κs = c .if1 .taken
-
-write-digits-write-byte-requires : (t : ℕ) → write-digits-lts.Need-write-byte-requires (
-  digit-of-reads.Asked,
-  digit-of-reads.Learnt,
-  write-byte-reads.Asked,
-  write-byte-reads.Learnt,
-  write-digits-below t,
-  write-digits.Post,
-) (write-digits-at t) write-digits.Post
-write-digits-write-byte-requires t c κs = let x = c .before .before .before .before in omega (arith, x .pre .1 .room, digits-some (x .args .n))
-
-write-digits-same-length : (t : ℕ) → write-digits-lts.Need-same-length (
-  digit-of-reads.Asked,
-  digit-of-reads.Learnt,
-  write-byte-reads.Asked,
-  write-byte-reads.Learnt,
-  write-digits-below t,
-  write-digits.Post,
-) (write-digits-at t) write-digits.Post
-write-digits-same-length t c = c .before .before .write-byte .kept .1 .1 .0
-
-write-digits-returns : (t : ℕ) → write-digits-lts.Need-returns (
-  digit-of-reads.Asked,
-  digit-of-reads.Learnt,
-  write-byte-reads.Asked,
-  write-byte-reads.Learnt,
-  write-digits-below t,
-  write-digits.Post,
-) (write-digits-at t) write-digits.Post
-write-digits-returns t c =
-    let x = c .before .before .before .before .before .before .before in
-    rw (digits-one (x .args .n) (c .before .before .before .before .before .if1 .taken), ← c .before .before .before .before .digit-of .ensures)
-    (c .before .before .write-byte .ensures)
-
-write-digits-write-digits-requires : (t : ℕ) → write-digits-lts.Need-write-digits-requires (
-  digit-of-reads.Asked,
-  digit-of-reads.Learnt,
-  write-byte-reads.Asked,
-  write-byte-reads.Learnt,
-  write-digits-below t,
-  write-digits.Post,
-) (write-digits-at t) write-digits.Post
-write-digits-write-digits-requires t c κs =
-    let x = c .before .before .before in
-    let many = c .before .if1 .left in
-    let e = digits-more (x .args .n) many in
-    let room = rw e at (x .pre .1) in
-    (omega (arith, x .pre .0), room-first (digits (x .args .n / 10)) (digit (x .args .n % 10) ∷ []) room)
-
-write-digits-digit-of-requires-2 : (t : ℕ) → write-digits-lts.Need-digit-of-requires-2 (
-  digit-of-reads.Asked,
-  digit-of-reads.Learnt,
-  write-byte-reads.Asked,
-  write-byte-reads.Learnt,
-  write-digits-below t,
-  write-digits.Post,
-) (write-digits-at t) write-digits.Post
-write-digits-digit-of-requires-2 t c κs = omega arith
-
-write-digits-write-byte-requires-2 : (t : ℕ) → write-digits-lts.Need-write-byte-requires-2 (
-  digit-of-reads.Asked,
-  digit-of-reads.Learnt,
-  write-byte-reads.Asked,
-  write-byte-reads.Learnt,
-  write-digits-below t,
-  write-digits.Post,
-) (write-digits-at t) write-digits.Post
-write-digits-write-byte-requires-2 t c κs =
-    let x = c .before .before .before .before .before .before .before .before in
-    let e = digits-more (x .args .n) (c .before .before .before .before .before .before .if1 .left) in
-    let room = rw e at (x .pre .1) in
-    rw (c .before .digit-of2 .ensures) (room-rest (digits (x .args .n / 10)) (digit (x .args .n % 10) ∷ []) room (c .before .before .before .before .write-digits .ensures))
-
-write-digits-same-length-2 : (t : ℕ) → write-digits-lts.Need-same-length-2 (
-  digit-of-reads.Asked,
-  digit-of-reads.Learnt,
-  write-byte-reads.Asked,
-  write-byte-reads.Learnt,
-  write-digits-below t,
-  write-digits.Post,
-) (write-digits-at t) write-digits.Post
-write-digits-same-length-2 t c = wrote-long (c .before .before .write-byte2 .ensures) ∙ wrote-long (c .before .before .before .before .before .before .before .write-digits .ensures)
-
-write-digits-returns-2 : (t : ℕ) → write-digits-lts.Need-returns-2 (
-  digit-of-reads.Asked,
-  digit-of-reads.Learnt,
-  write-byte-reads.Asked,
-  write-byte-reads.Learnt,
-  write-digits-below t,
-  write-digits.Post,
-) (write-digits-at t) write-digits.Post
-write-digits-returns-2 t c =
-    let x = c .before .before .before .before .before .before .before .before .before .before .before in
-    rw (digits-more (x .args .n) (c .before .before .before .before .before .before .before .before .before .if1 .left), ← c .before .before .before .before .digit-of2 .ensures)
-    (wrote-then (c .before .before .before .before .before .before .before .write-digits .ensures) (c .before .before .write-byte2 .ensures))
-
-pub +write-digits-spec : {M : Type 1} → statement M
-+write-digits-spec = close μ-write-digits λ t. write-digits-lts.spec (
+-- what is known of the callees
+abbrev claims : ℕ → write-digits-lts.Claims
+claims t = (
   digit-of-reads.Asked,
   digit-of-reads.Learnt,
   write-byte-reads.Asked,
@@ -145,8 +39,50 @@ pub +write-digits-spec : {M : Type 1} → statement M
   write-digits-below t,
   write-digits.Post,
 )
-    (write-digits-at t)
-    write-digits.Post
+
+write-digits-digit-of-requires : (t : ℕ) → write-digits-lts.Need-digit-of-requires (claims t) (write-digits-at t) write-digits.Post
+write-digits-digit-of-requires t c κs = c .if1 .taken
+
+write-digits-write-byte-requires : (t : ℕ) → write-digits-lts.Need-write-byte-requires (claims t) (write-digits-at t) write-digits.Post
+write-digits-write-byte-requires t c κs = omega (arith, digits-some (c .before .before .before .before .args .n))
+
+write-digits-same-length : (t : ℕ) → write-digits-lts.Need-same-length (claims t) (write-digits-at t) write-digits.Post
+write-digits-same-length t c = c .before .before .write-byte .kept .1 .1 .0
+
+write-digits-returns : (t : ℕ) → write-digits-lts.Need-returns (claims t) (write-digits-at t) write-digits.Post
+write-digits-returns t c =
+    let at = c .before .before .before .before in
+    rw (digits-one (at .before .before .before .args .n) (at .before .if1 .taken), ← at .digit-of .ensures) (c .before .before .write-byte .ensures)
+
+write-digits-write-digits-requires : (t : ℕ) → write-digits-lts.Need-write-digits-requires (claims t) (write-digits-at t) write-digits.Post
+write-digits-write-digits-requires t c κs =
+    let x = c .before .before .before in
+    let room = rw (digits-more (x .args .n) (c .before .if1 .left)) at (x .pre .1) in
+    (omega (arith, x .pre .0), search room-first)
+
+write-digits-digit-of-requires-2 : (t : ℕ) → write-digits-lts.Need-digit-of-requires-2 (claims t) (write-digits-at t) write-digits.Post
+write-digits-digit-of-requires-2 t c κs = omega arith
+
+write-digits-write-byte-requires-2 : (t : ℕ) → write-digits-lts.Need-write-byte-requires-2 (claims t) (write-digits-at t) write-digits.Post
+write-digits-write-byte-requires-2 t c κs =
+    let at = c .before .before .before .before .before .before in
+    let x = at .before .before in
+    let room = rw (digits-more (x .args .n) (at .if1 .left)) at (x .pre .1) in
+    rw (c .before .digit-of2 .ensures) (search room-rest)
+
+write-digits-same-length-2 : (t : ℕ) → write-digits-lts.Need-same-length-2 (claims t) (write-digits-at t) write-digits.Post
+write-digits-same-length-2 t c =
+    let at = c .before .before in
+    wrote-long (at .write-byte2 .ensures) ∙ wrote-long (at .before .before .before .before .before .write-digits .ensures)
+
+write-digits-returns-2 : (t : ℕ) → write-digits-lts.Need-returns-2 (claims t) (write-digits-at t) write-digits.Post
+write-digits-returns-2 t c =
+    let tens = c .before .before .before .before .before .before .before in
+    let at = tens .before .before in
+    rw (digits-more (at .before .before .args .n) (at .if1 .left), ← c .before .before .before .before .digit-of2 .ensures) (search wrote-then)
+
+pub +write-digits-spec : {M : Type 1} → statement M
++write-digits-spec = close μ-write-digits λ t. write-digits-lts.spec (claims t) (write-digits-at t) write-digits.Post
     (write-digits-digit-of-requires t)
     (write-digits-write-byte-requires t)
     (write-digits-same-length t)

@@ -4,7 +4,7 @@ use Prim.Native.Nat.{_-_, _≤_}
 use native.Mathlib.Numerals.{add-one}
 use native.Mathlib.Omega.{arith}
 use Rattle.report.specs.Text.{each, arcLine}
-use Rattle.report.specs.Written.{Wrote}
+use Rattle.report.specs.inside.Written.{Wrote}
 use Rattle.report.proofs.Writes.{wrote-long, each-none, each-room, each-more, each-all}
 use Rattle.report.proofs.lines.write_arcs.Statement.{statement}
 use Rattle.report.proofs.lines.write_arcs.Tie as tie
@@ -26,8 +26,8 @@ shared-slice-read-write-arc c = omega arith
 
 write-arc-requires : tie.Need-write-arc-requires Inv-loop μ-loop
 write-arc-requires c κs =
-    let x = c .before .before .before .before .before .before in
-    each-room (arcLine (x .args .arcs .now)) (c .before .before .before .loop .a) (c .before .before .loop-test .taken) (x .pre .1) (c .before .before .before .loop .inv .1)
+    let at = c .before .before .before in
+    each-room _ (at .loop .a) (c .before .before .loop-test .taken) (at .before .before .before .pre .1) (at .loop .inv .1)
 
 add-a : tie.Need-add-a Inv-loop μ-loop
 add-a c = omega (arith, c .before .before .before .before .before .loop-test .taken)
@@ -37,19 +37,18 @@ loop-less c = omega (arith, c .before .before .before .before .before .loop-test
 
 loop-again : tie.Need-loop-again Inv-loop μ-loop
 loop-again c =
-    let x = c .before .before .before .before .before .before .before .before .before in
-    let at = c .before .before .before .before .before .before .loop in
-    (omega (arith, c .before .before .before .before .before .loop-test .taken), rw (add-one (at .a)) (each-more (arcLine (x .args .arcs .now)) (at .inv .1) (c .before .before .write-arc .ensures)))
+    let turn = c .before .before .before .before .before in
+    let at = turn .before .loop in
+    (omega (arith, turn .loop-test .taken), rw (add-one (at .a)) (each-more _ (at .inv .1) (c .before .before .write-arc .ensures)))
 
 same-length : tie.Need-same-length Inv-loop μ-loop
 same-length c = wrote-long (c .before .loop .inv .1)
 
 returns : tie.Need-returns Inv-loop μ-loop
 returns c =
-    let x = c .before .before .before .before in
-    let at = c .before .loop in
-    let e : at .a ≡ x .args .count = omega (arith, c .loop-test .left, at .inv .0) in
-    each-all (arcLine (x .args .arcs .now)) e (at .inv .1)
+    let at = c .before in
+    let e : at .loop .a ≡ at .before .before .before .args .count = omega (arith, c .loop-test .left, at .loop .inv .0) in
+    each-all _ e (at .loop .inv .1)
 
 pub write-arcs-spec : {M : Type 1} → statement M
 write-arcs-spec =

@@ -4,7 +4,7 @@ use Prim.Native.Nat.{_-_, _≤_}
 use native.Mathlib.Numerals.{add-one}
 use native.Mathlib.Omega.{arith}
 use Rattle.report.specs.Text.{each, row}
-use Rattle.report.specs.Written.{Wrote}
+use Rattle.report.specs.inside.Written.{Wrote}
 use Rattle.report.proofs.Writes.{wrote-long, each-none, each-room, each-more, each-all}
 use Rattle.report.proofs.lines.write_rows.Statement.{statement}
 use Rattle.report.proofs.lines.write_rows.Tie as tie
@@ -20,11 +20,10 @@ loop-holds c = (omega arith, each-none _ _ _)
 
 write-row-requires : tie.Need-write-row-requires Inv-loop μ-loop
 write-row-requires c κs =
-    let x = c .before .before .before .before in
-    let at = c .before .before .loop in (
-      omega (arith, x .pre .0, c .before .loop-test .taken),
-      each-room (row (x .args .numbers .now)) (at .i) (c .before .loop-test .taken) (x .pre .1) (at .inv .1),
-    )
+    let at = c .before .before in
+    let x = at .before .before in
+    let below = c .before .loop-test .taken in
+    (omega (arith, x .pre .0, below), each-room _ (at .loop .i) below (x .pre .1) (at .loop .inv .1))
 
 add-i : tie.Need-add-i Inv-loop μ-loop
 add-i c = omega (arith, c .before .before .before .before .loop-test .taken)
@@ -34,19 +33,18 @@ loop-less c = omega (arith, c .before .before .before .before .loop-test .taken)
 
 loop-again : tie.Need-loop-again Inv-loop μ-loop
 loop-again c =
-    let x = c .before .before .before .before .before .before .before in
-    let at = c .before .before .before .before .before .loop in
-    (omega (arith, c .before .before .before .before .loop-test .taken), rw (add-one (at .i)) (each-more (row (x .args .numbers .now)) (at .inv .1) (c .before .before .write-row .ensures)))
+    let turn = c .before .before .before .before in
+    let at = turn .before .loop in
+    (omega (arith, turn .loop-test .taken), rw (add-one (at .i)) (each-more _ (at .inv .1) (c .before .before .write-row .ensures)))
 
 same-length : tie.Need-same-length Inv-loop μ-loop
 same-length c = wrote-long (c .before .loop .inv .1)
 
 returns : tie.Need-returns Inv-loop μ-loop
 returns c =
-    let x = c .before .before .before in
-    let at = c .before .loop in
-    let e : at .i ≡ x .args .l = omega (arith, c .loop-test .left, at .inv .0) in
-    each-all (row (x .args .numbers .now)) e (at .inv .1)
+    let at = c .before in
+    let e : at .loop .i ≡ at .before .before .args .l = omega (arith, c .loop-test .left, at .loop .inv .0) in
+    each-all _ e (at .loop .inv .1)
 
 pub write-rows-spec : {M : Type 1} → statement M
 write-rows-spec =

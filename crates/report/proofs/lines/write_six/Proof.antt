@@ -4,7 +4,7 @@ use Prim.Native.Nat.{_-_, _≤_}
 use native.Mathlib.Numerals.{add-one}
 use native.Mathlib.Omega.{arith}
 use Rattle.report.specs.Text.{each}
-use Rattle.report.specs.Written.{Wrote}
+use Rattle.report.specs.inside.Written.{Wrote}
 use Rattle.report.proofs.Rows.{field, fields-are}
 use Rattle.ticks.proofs.Words.{word-is}
 use Rattle.report.proofs.Writes.{wrote-long, each-none, each-room, each-more, each-all}
@@ -31,10 +31,11 @@ shared-slice-copy-out-write-time c = omega arith
 
 write-time-requires : tie.Need-write-time-requires Inv-loop μ-loop
 write-time-requires c κs =
-    let x = c .before .before .before .before .before in
-    let at = c .before .before .before .loop in
+    let at = c .before .before .before in
+    let x = at .before .before in
+    let room = rw (← fields-are (x .args .numbers .now) (x .args .first) 6 (x .pre .0)) at (x .pre .1) in
     rw (word-is _ (record { sfits = c .before .write-time-arg .given }))
-    (each-room (field (x .args .numbers .now) (x .args .first)) (at .j) (c .before .before .loop-test .taken) (rw (fields-are (x .args .numbers .now) (x .args .first) 6 (x .pre .0)) (x .pre .1)) (at .inv .1))
+    (each-room _ (at .loop .j) (c .before .before .loop-test .taken) room (at .loop .inv .1))
 
 add-j : tie.Need-add-j Inv-loop μ-loop
 add-j c = omega (arith, c .before .before .before .before .before .loop-test .taken)
@@ -44,20 +45,21 @@ loop-less c = omega (arith, c .before .before .before .before .before .loop-test
 
 loop-again : tie.Need-loop-again Inv-loop μ-loop
 loop-again c =
-    let x = c .before .before .before .before .before .before .before .before in
-    let at = c .before .before .before .before .before .before .loop in
-    let wrote = rw (word-is _ (record { sfits = c .before .before .before .before .write-time-arg .given })) at (c .before .before .write-time .ensures) in
-    (omega (arith, c .before .before .before .before .before .loop-test .taken), rw (add-one (at .j)) (each-more (field (x .args .numbers .now) (x .args .first)) (at .inv .1) wrote))
+    let read = c .before .before .before .before in
+    let turn = read .before in
+    let at = turn .before .loop in
+    let wrote = rw (word-is _ (record { sfits = read .write-time-arg .given })) at (c .before .before .write-time .ensures) in
+    (omega (arith, turn .loop-test .taken), rw (add-one (at .j)) (each-more _ (at .inv .1) wrote))
 
 same-length : tie.Need-same-length Inv-loop μ-loop
 same-length c = wrote-long (c .before .loop .inv .1)
 
 returns : tie.Need-returns Inv-loop μ-loop
 returns c =
-    let x = c .before .before .before in
-    let at = c .before .loop in
-    let e : at .j ≡ 6 = omega (arith, c .loop-test .left, at .inv .0) in
-    rw (fields-are (x .args .numbers .now) (x .args .first) 6 (x .pre .0)) at (each-all (field (x .args .numbers .now) (x .args .first)) e (at .inv .1))
+    let at = c .before in
+    let x = at .before .before in
+    let e : at .loop .j ≡ 6 = omega (arith, c .loop-test .left, at .loop .inv .0) in
+    rw (fields-are (x .args .numbers .now) (x .args .first) 6 (x .pre .0)) at (each-all _ e (at .loop .inv .1))
 
 pub write-six-spec : {M : Type 1} → statement M
 write-six-spec =

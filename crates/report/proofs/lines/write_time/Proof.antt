@@ -1,9 +1,7 @@
 -- `write_time`: a space, then the number.
-use mathlib.Core.List.{[], _∷_}
+use native.Mathlib.Omega.{arith}
 use Rattle.report.specs.Decimal.{result}
-use Rattle.report.specs.Text.{space}
-use Rattle.ticks.proofs.Words.{word-is}
-use Rattle.report.proofs.Writes.{wrote-then, room-rest}
+use Rattle.report.proofs.Writes.{wrote-cons, word-wrote, word-long}
 use borrow.Author.Needs.{needs}
 use Rattle.report.proofs.lines.write_time.Statement.{statement}
 use Rattle.report.proofs.lines.write_time.Tie as tie
@@ -12,17 +10,16 @@ write-byte-requires : tie.Need-write-byte-requires
 write-byte-requires c κs = search needs
 
 write-result-requires : tie.Need-write-result-requires
-write-result-requires c κs =
-    let x = c .before .before .before .before .before .before in
-    rw (word-is (x .args .time) (x .fits .time)) (room-rest (space ∷ []) (result (x .args .time)) (x .pre) (c .before .before .before .write-byte .ensures))
+write-result-requires c κs = omega (arith, word-long result)
 
 same-length : tie.Need-same-length
 same-length c = search needs
 
 returns : tie.Need-returns
 returns c =
-    let x = c .before .before .before .before .before .before .before .before .before in
-    wrote-then (c .before .before .before .before .before .before .write-byte .ensures) (rw (word-is (x .args .time) (x .fits .time)) at (c .before .before .write-result .ensures))
+    let at = c .before .before in
+    let time = word-wrote result (at .before .before .before .before .before .before .before .fits .time) (at .write-result .ensures) in
+    search wrote-cons
 
 pub write-time-spec : {M : Type 1} → statement M
 write-time-spec =

@@ -6,7 +6,7 @@ use native.Mathlib.Numerals.{add-one}
 use native.Mathlib.Omega.{arith}
 use lib.ListN.{length, getD}
 use Rattle.report.specs.Text.{each}
-use Rattle.report.specs.Written.{Wrote}
+use Rattle.report.specs.inside.Written.{Wrote}
 use Rattle.report.proofs.Writes.{wrote-long, each-none, each-room, each-more, each-all, bytes-are}
 use Rattle.report.proofs.lines.write_word.Statement.{statement}
 use Rattle.report.proofs.lines.write_word.Tie as tie
@@ -25,9 +25,9 @@ shared-slice-read-write-byte c = omega arith
 
 write-byte-requires : tie.Need-write-byte-requires Inv-loop μ-loop
 write-byte-requires c κs =
-    let x = c .before .before .before .before .before .before in
-    let word = x .args .word .now in
-    each-room (λ j. getD word j 0 ∷ []) (c .before .before .before .loop .k) (c .before .before .loop-test .taken) (rw (bytes-are word) (x .pre)) (c .before .before .before .loop .inv .1)
+    let at = c .before .before .before in
+    let room = rw (← bytes-are (at .before .before .before .args .word .now)) at (at .before .before .before .pre) in
+    each-room _ (at .loop .k) (c .before .before .loop-test .taken) room (at .loop .inv .1)
 
 add-k : tie.Need-add-k Inv-loop μ-loop
 add-k c = omega (arith, c .before .before .before .before .before .loop-test .taken)
@@ -37,20 +37,19 @@ loop-less c = omega (arith, c .before .before .before .before .before .loop-test
 
 loop-again : tie.Need-loop-again Inv-loop μ-loop
 loop-again c =
-    let x = c .before .before .before .before .before .before .before .before .before in
-    let at = c .before .before .before .before .before .before .loop in
-    (omega (arith, c .before .before .before .before .before .loop-test .taken), rw (add-one (at .k)) (each-more (λ j. getD (x .args .word .now) j 0 ∷ []) (at .inv .1) (c .before .before .write-byte .ensures)))
+    let turn = c .before .before .before .before .before in
+    let at = turn .before .loop in
+    (omega (arith, turn .loop-test .taken), rw (add-one (at .k)) (each-more _ (at .inv .1) (c .before .before .write-byte .ensures)))
 
 same-length : tie.Need-same-length Inv-loop μ-loop
 same-length c = wrote-long (c .before .loop .inv .1)
 
 returns : tie.Need-returns Inv-loop μ-loop
 returns c =
-    let x = c .before .before .before .before in
-    let word = x .args .word .now in
-    let at = c .before .loop in
-    let e : at .k ≡ length word = omega (arith, c .loop-test .left, at .inv .0) in
-    rw (bytes-are word) at (each-all (λ j. getD word j 0 ∷ []) e (at .inv .1))
+    let at = c .before in
+    let word = at .before .before .before .args .word .now in
+    let e : at .loop .k ≡ length word = omega (arith, c .loop-test .left, at .loop .inv .0) in
+    rw (bytes-are word) at (each-all _ e (at .loop .inv .1))
 
 pub write-word-spec : {M : Type 1} → statement M
 write-word-spec =

@@ -1,11 +1,11 @@
 -- `arrival` walks the arcs: what it holds at arc a is, with a cycle added, the best of the arcs before it.
 use mathlib.Core.Path.{_≡_, sym, ap, _∙_}
-use Prim.Native.Nat.{ℕ, _+_, _-_, _≤_, _<_}
+use Prim.Native.Nat.{ℕ, _-_, _≤_, _<_}
 use native.Mathlib.Omega.{arith}
-use Rattle.ticks.specs.Raised.{RAISE}
-use Rattle.tables.specs.Net.{sideOf, timesOf, arcsOf, brought}
-use Rattle.tables.specs.Net as walked
-use Rattle.tables.proofs.Best.{best-none, best-one, best-more, better-less, better-low, better-high}
+use Rattle.ticks.specs.inside.Raised.{RAISE, SIGNED}
+use Rattle.tables.specs.inside.Net.{sideOf, timesOf, arcsOf, brought}
+use Rattle.tables.specs.inside.Net as walked
+use Rattle.tables.proofs.WalksOverArcs.{best-none, best-one, best-more, better-less, better-low, better-high}
 use Rattle.timing.proofs.Reach.{reach-at}
 use borrow.Author.Needs.{needs}
 use Rattle.timing.proofs.arrive.arrival.Statement.{statement}
@@ -13,13 +13,14 @@ use Rattle.timing.proofs.arrive.arrival.Tie as tie
 
 abbrev Inv-loop : tie.InvT-loop
 Inv-loop late source lead cycle departs from to best₀ a₀ best a =
-    (from < a) × (a ≤ to) × (best - cycle ≡ walked.best (sideOf late) (arcsOf source lead cycle) (timesOf departs) from (a - from)) × (RAISE ≤ best) × (best < 9223372036854775808)
+    (from < a)
+    × (a ≤ to)
+    × (best - cycle ≡ walked.best (sideOf late) (arcsOf source lead cycle) (timesOf departs) from (a - from))
+    × (RAISE ≤ best)
+    × (best < SIGNED)
 
 abbrev μ-loop : tie.MeasureT-loop
 μ-loop late source lead cycle departs from to best₀ a₀ best a = to - a
-
-none-yet-requires : tie.Need-none-yet-requires Inv-loop μ-loop
-none-yet-requires c κs = search needs
 
 returns : tie.Need-returns Inv-loop μ-loop
 returns c =
@@ -33,9 +34,6 @@ returns c =
 laden-requires : tie.Need-laden-requires Inv-loop μ-loop
 laden-requires c κs = reach-at (c .before .pre .1) (omega (arith, c .if1 .left))
 
-add-a : tie.Need-add-a Inv-loop μ-loop
-add-a c = search needs
-
 loop-holds : tie.Need-loop-holds Inv-loop μ-loop
 loop-holds c =
     let x = c .before .before .args in
@@ -48,15 +46,6 @@ loop-holds c =
 
 laden-requires-2 : tie.Need-laden-requires-2 Inv-loop μ-loop
 laden-requires-2 c κs = reach-at (c .before .before .before .before .pre .1) (c .loop-test .taken)
-
-choose-requires : tie.Need-choose-requires Inv-loop μ-loop
-choose-requires c κs = search needs
-
-add-a-2 : tie.Need-add-a-2 Inv-loop μ-loop
-add-a-2 c = search needs
-
-loop-less : tie.Need-loop-less Inv-loop μ-loop
-loop-less c = search needs
 
 loop-again : tie.Need-loop-again Inv-loop μ-loop
 loop-again c =
@@ -74,9 +63,6 @@ loop-again c =
       rw (c .choose .ensures) (better-high s (r .inv .4) (w .1 .1)),
     )
 
-wide-requires : tie.Need-wide-requires Inv-loop μ-loop
-wide-requires c κs = search needs
-
 sub-result : tie.Need-sub-result Inv-loop μ-loop
 sub-result c = omega (arith, c .wide .ensures, c .before .before .loop .inv .3)
 
@@ -87,4 +73,6 @@ returns-2 c =
     rw (c .wide .ensures .0, ← e) (r .inv .2)
 
 pub arrival-spec : {M : Type 1} → statement M
-arrival-spec = tie.close (tie.spec Inv-loop μ-loop none-yet-requires returns laden-requires add-a loop-holds laden-requires-2 choose-requires add-a-2 loop-less loop-again wide-requires sub-result returns-2)
+arrival-spec = tie.close (tie.spec
+    Inv-loop μ-loop (λ c κs. search needs) returns laden-requires (λ c. search needs) loop-holds laden-requires-2 (λ c κs. search needs)
+    (λ c. search needs) (λ c. search needs) loop-again (λ c κs. search needs) sub-result returns-2)

@@ -8,9 +8,6 @@ use Rattle.timing.proofs.arrive.bring.Tie as tie
 laden-requires : tie.Need-laden-requires
 laden-requires c κs = reach-at (c .pre .reachable) (c .pre .here)
 
-wide-requires : tie.Need-wide-requires
-wide-requires c κs = search needs
-
 sub-result : tie.Need-sub-result
 sub-result c = omega (arith, c .wide .ensures, c .before .laden .ensures .1)
 
@@ -18,4 +15,4 @@ returns : tie.Need-returns
 returns c = rw (← c .before .laden .ensures .0, c .wide .ensures .0)
 
 pub bring-spec : {M : Type 1} → statement M
-bring-spec = tie.close (tie.spec laden-requires wide-requires sub-result returns)
+bring-spec = tie.close (tie.spec laden-requires (λ c κs. search needs) sub-result returns)

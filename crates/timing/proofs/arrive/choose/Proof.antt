@@ -3,12 +3,6 @@ use borrow.Author.Needs.{needs}
 use Rattle.timing.proofs.arrive.choose.Statement.{statement}
 use Rattle.timing.proofs.arrive.choose.Tie as tie
 
-greater-requires : tie.Need-greater-requires
-greater-requires c κs = search needs
-
-lesser-requires : tie.Need-lesser-requires
-lesser-requires c κs = search needs
-
 returns : tie.Need-returns
 returns c = rw (c .before .if1 .taken) (c .greater .ensures)
 
@@ -16,4 +10,4 @@ returns-2 : tie.Need-returns-2
 returns-2 c = rw (c .before .if1 .left) (c .lesser .ensures)
 
 pub choose-spec : {M : Type 1} → statement M
-choose-spec = tie.close (tie.spec greater-requires lesser-requires returns returns-2)
+choose-spec = tie.close (tie.spec (λ c κs. search needs) (λ c κs. search needs) returns returns-2)

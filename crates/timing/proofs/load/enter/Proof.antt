@@ -3,7 +3,7 @@ use mathlib.Core.Path.{refl}
 use Prim.Native.Nat.{_≤_, _-_}
 use native.Mathlib.Omega.{arith}
 use borrow.Author.Needs.{needs}
-use Rattle.timing.specs.Loaded.{Spread}
+use Rattle.timing.specs.inside.Loaded.{Spread}
 use Rattle.timing.proofs.Splitting.{spread-more}
 use Rattle.timing.proofs.load.enter.Statement.{statement}
 use Rattle.timing.proofs.load.enter.Tie as tie
@@ -17,22 +17,13 @@ abbrev μ-loop : tie.MeasureT-loop
 loop-holds : tie.Need-loop-holds Inv-loop μ-loop
 loop-holds c = (omega arith, record { long = refl; kept = λ i h. refl; new = λ i h k. let z : ⊥ = omega arith in absurd z })
 
-add-i : tie.Need-add-i Inv-loop μ-loop
-add-i c = search needs
-
-mul-first : tie.Need-mul-first Inv-loop μ-loop
-mul-first c = search needs
-
-element-write-first : tie.Need-element-write-first Inv-loop μ-loop
-element-write-first c = search needs
-
 loop-less : tie.Need-loop-less Inv-loop μ-loop
 loop-less c = omega arith
 
 loop-again : tie.Need-loop-again Inv-loop μ-loop
 loop-again c =
     let l = c .before .loop in
-    (omega arith, spread-more _ _ _ _ _ (l .inv .0) (omega arith) (l .inv .1))
+    (omega arith, spread-more (l .inv .0) (omega arith) (l .inv .1))
 
 returns : tie.Need-returns Inv-loop μ-loop
 returns c =
@@ -40,15 +31,4 @@ returns c =
     record { long = s .long; kept = s .kept; new = λ i h k. s .new i h (omega arith) }
 
 pub enter-spec : {M : Type 1} → statement M
-enter-spec =
-    tie.close
-    (tie.spec
-    Inv-loop
-    μ-loop
-    loop-holds
-    add-i
-    mul-first
-    element-write-first
-    loop-less
-    loop-again
-    returns)
+enter-spec = tie.close (tie.spec Inv-loop μ-loop loop-holds (λ c. search needs) (λ c. search needs) (λ c. search needs) loop-less loop-again returns)

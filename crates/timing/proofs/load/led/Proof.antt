@@ -23,15 +23,16 @@ ends : (c : tie.After-of) →
     Ends (circuitOf (c .before .before .args .bytes .now)) (c .before .before .args .image .cycle) (c .of .result) (left c) (entered c)
     (closes c (left c)) (closes c (entered c)) (getD (c .before .before .args .least .now) (c .of .result .from) 0)
     (getD (c .before .before .args .greatest .now) (c .of .result .from) 0)
-ends c = let e = c .before .before .pre in ends-known _ (e .0) _ (e .1 .0) _ (e .1 .1 .0) _ (c .of .ensures) _ _ _ _ (e .1 .1 .1)
+ends c = let e = c .before .before .pre in ends-known (e .0) (e .1 .0) (e .1 .1 .0) (c .of .ensures) (e .1 .1 .1)
 
 -- once the shift is known
-back : (c : tie.After-shift) → (c .shift .result ≤ c .before .before .before .before .before .before .before .before .before .args .image .cycle) × (c .before .before .before .before .before .before .before .before .before .args .image .cycle ≤ 1000000000)
-back c = let k = c .before .before .before .before .before .before .before in let e = k .before .before .pre in
-    back-known _ (e .0) _ (e .1 .0) _ (e .1 .1 .0) _ (k .of .ensures) _ _ _ _ (e .1 .1 .1) _ (shifted (ends k .shifts) (c .shift .ensures))
+abbrev read : tie.After-shift → tie.After-of
+read c = c .before .before .before .before .before .before .before
 
-of-requires : tie.Need-of-requires
-of-requires c κs = search needs
+back : (c : tie.After-shift) → let cycle = read c .before .before .args .image .cycle in (c .shift .result ≤ cycle) × (cycle ≤ 1000000000)
+back c =
+    let e = read c .before .before .pre in
+    back-known (e .0) (e .1 .0) (e .1 .1 .0) (read c .of .ensures) (e .1 .1 .1) (shifted (ends (read c) .shifts) (c .shift .ensures))
 
 cast-from : tie.Need-cast-from
 cast-from c = omega (arith, ends (c .before) .from)
@@ -70,65 +71,44 @@ sub-back : tie.Need-sub-back
 sub-back c = back c .0
 
 narrow-requires : tie.Need-narrow-requires
-narrow-requires c κs = omega (arith, ends (c .before .before .before .before .before .before .before) .from)
+narrow-requires c κs = omega (arith, ends (read c) .from)
 
 mul-t21 : tie.Need-mul-t21
-mul-t21 c = omega (arith, ends (c .before .before .before .before .before .before .before .before) .from)
+mul-t21 c = omega (arith, ends (read (c .before)) .from)
 
 element-copy-out-t20 : tie.Need-element-copy-out-t20
-element-copy-out-t20 c = omega (arith, ends (c .before .before .before .before .before .before .before .before) .from)
+element-copy-out-t20 c = omega (arith, ends (read (c .before)) .from)
 
 add-t30 : tie.Need-add-t30
-add-t30 c = omega (arith, ends (c .before .before .before .before .before .before .before .before .before .before) .late)
+add-t30 c = omega (arith, ends (read (c .before .before .before)) .late)
 
 add-t25 : tie.Need-add-t25
-add-t25 c = omega (arith, ends (c .before .before .before .before .before .before .before .before .before .before) .late, back (c .before .before .before))
+add-t25 c = omega (arith, ends (read (c .before .before .before)) .late, back (c .before .before .before))
 
 mul-t27 : tie.Need-mul-t27
-mul-t27 c = omega (arith, ends (c .before .before .before .before .before .before .before .before .before .before) .from)
+mul-t27 c = omega (arith, ends (read (c .before .before .before)) .from)
 
 element-copy-out-t36 : tie.Need-element-copy-out-t36
-element-copy-out-t36 c = omega (arith, ends (c .before .before .before .before .before .before .before .before .before .before) .from)
+element-copy-out-t36 c = omega (arith, ends (read (c .before .before .before)) .from)
 
 add-t37 : tie.Need-add-t37
-add-t37 c = omega (arith, ends (c .before .before .before .before .before .before .before .before .before .before .before .before) .early)
+add-t37 c = omega (arith, ends (read (c .before .before .before .before .before)) .early)
 
 add-t38 : tie.Need-add-t38
-add-t38 c = omega (arith, ends (c .before .before .before .before .before .before .before .before .before .before .before .before) .early, back (c .before .before .before .before .before))
+add-t38 c = omega (arith, ends (read (c .before .before .before .before .before)) .early, back (c .before .before .before .before .before))
 
 returns : tie.Need-returns
 returns c =
-    let k = c .before .before .before .before .before .before .before .before .before .before .before .before in
+    let shift = c .before .before .before .before .before in
+    let k = read shift in
     let e = k .before .before .pre in
-    let s = shifted (ends k .shifts) (c .before .before .before .before .before .shift .ensures) in (
-      rw (c .before .before .before .before .narrow .ensures) (led-known _ (e .0) _ (e .1 .0) _ (e .1 .1 .0) _ (k .of .ensures) _ _ _ _ (e .1 .1 .1) _ s),
-      target-known _ (e .0) _ (e .1 .0) _ (e .1 .1 .0) _ (k .of .ensures) _ _ _ _ (e .1 .1 .1),
+    let s = shifted (ends k .shifts) (shift .shift .ensures) in (
+      rw (c .before .before .before .before .narrow .ensures) (led-known (e .0) (e .1 .0) (e .1 .1 .0) (k .of .ensures) (e .1 .1 .1) s),
+      target-known (e .0) (e .1 .0) (e .1 .1 .0) (k .of .ensures) (e .1 .1 .1),
     )
 
 pub led-spec : {M : Type 1} → statement M
-led-spec =
-    tie.close
-    (tie.spec
-    of-requires
-    cast-from
-    cast-to
-    element-copy-out-p
-    element-copy-out-q
-    cast-shift
-    mul-shift
-    element-copy-out-shift
-    cast-shift-2
-    mul-shift-2
-    element-copy-out-shift-2
-    shift-requires
-    sub-back
-    narrow-requires
-    mul-t21
-    element-copy-out-t20
-    add-t30
-    add-t25
-    mul-t27
-    element-copy-out-t36
-    add-t37
-    add-t38
-    returns)
+led-spec = tie.close (tie.spec
+    (λ c κs. search needs) cast-from cast-to element-copy-out-p element-copy-out-q cast-shift mul-shift element-copy-out-shift cast-shift-2
+    mul-shift-2 element-copy-out-shift-2 shift-requires sub-back narrow-requires mul-t21 element-copy-out-t20 add-t30 add-t25 mul-t27
+    element-copy-out-t36 add-t37 add-t38 returns)

@@ -4,46 +4,27 @@ use mathlib.Core.Path.{_≡_}
 use native.Mathlib.Omega.{arith}
 use borrow.Author.Needs.{needs}
 use Rattle.circuit.specs.Circuit.{circuitOf}
-use Rattle.tables.proofs.Filled.{Filled, fill-none}
-use Rattle.timing.proofs.Read.{counts, of-phase, most-phases}
-use Rattle.timing.proofs.Storing.{filled-more}
+use Rattle.tables.specs.inside.Filled.{Filled}
+use Rattle.tables.proofs.Filled.{fill-none}
+use Rattle.timing.proofs.RecordsRead.{counts, of-phase, most-phases}
+use Rattle.timing.proofs.OneMoreLoaded.{filled-more}
 use Rattle.timing.proofs.load.load_phases.Statement.{statement}
 use Rattle.timing.proofs.load.load_phases.Tie as tie
+use Rattle.tables.specs.inside.Sizes.{PHASES}
 
 abbrev Inv-loop : tie.InvT-loop
 Inv-loop bytes image closing₀ active₀ layout p₀ closing active p =
-    (p ≤ image .phases) × Filled 16 (circuitOf bytes .closing) closing p × Filled 16 (circuitOf bytes .active) active p
+    (p ≤ image .phases) × Filled PHASES (circuitOf bytes .closing) closing p × Filled PHASES (circuitOf bytes .active) active p
 
 abbrev μ-loop : tie.MeasureT-loop
 μ-loop bytes image closing₀ active₀ layout p₀ closing active p = image .phases - p
 
 -- the phases fit the tables
-few : (c : tie.Then1 Inv-loop μ-loop) → c .before .before .before .before .before .args .image .phases ≤ 16
+few : (c : tie.Then1 Inv-loop μ-loop) → c .before .before .before .before .before .args .image .phases ≤ PHASES
 few c = let e = c .before .before .before .before .before .pre in omega (arith, counts _ _ (e .1 .0) .phases, most-phases _ (e .0))
 
 loop-holds : tie.Need-loop-holds Inv-loop μ-loop
 loop-holds c = let h = c .before .before .pre .1 .1 in (omega arith, fill-none (h .0), fill-none (h .1))
-
-read-requires : tie.Need-read-requires Inv-loop μ-loop
-read-requires c κs = search needs
-
-cast-at : tie.Need-cast-at Inv-loop μ-loop
-cast-at c = omega (arith, few (c .before))
-
-mul-closing : tie.Need-mul-closing Inv-loop μ-loop
-mul-closing c = omega (arith, few (c .before))
-
-element-write-closing : tie.Need-element-write-closing Inv-loop μ-loop
-element-write-closing c = omega (arith, few (c .before))
-
-mul-active : tie.Need-mul-active Inv-loop μ-loop
-mul-active c = omega (arith, few (c .before))
-
-element-write-active : tie.Need-element-write-active Inv-loop μ-loop
-element-write-active c = omega (arith, few (c .before))
-
-add-p : tie.Need-add-p Inv-loop μ-loop
-add-p c = omega (arith, few (c .before))
 
 loop-less : tie.Need-loop-less Inv-loop μ-loop
 loop-less c = omega arith
@@ -53,31 +34,19 @@ loop-again c =
     let l = c .before .before .before .loop in
     let h = of-phase _ _ (c .before .before .before .before .before .before .pre .1 .0) (c .read .ensures) in (
       omega arith,
-      filled-more (l .closing) (l .p) _ (l .inv .1) (omega (arith, few (c .before))) (h .closing),
-      filled-more (l .active) (l .p) _ (l .inv .2) (omega (arith, few (c .before))) (h .active),
+      filled-more (l .inv .1) (omega (arith, few (c .before))) (h .closing),
+      filled-more (l .inv .2) (omega (arith, few (c .before))) (h .active),
     )
 
 returns : tie.Need-returns Inv-loop μ-loop
 returns c =
     let l = c .before .before .loop in
-    let e = c .before .before .before .before .before .pre in
-    let n : l .p ≡ circuitOf (c .before .before .before .before .before .args .bytes .now) .phases = omega (arith, counts _ _ (e .1 .0) .phases) in
+    let start = c .before .before .before .before .before in
+    let n : l .p ≡ circuitOf (start .args .bytes .now) .phases = omega (arith, counts _ _ (start .pre .1 .0) .phases) in
     (rw n at (l .inv .1), rw n at (l .inv .2))
 
 pub load-phases-spec : {M : Type 1} → statement M
-load-phases-spec =
-    tie.close
-    (tie.spec
-    Inv-loop
-    μ-loop
-    loop-holds
-    read-requires
-    cast-at
-    mul-closing
-    element-write-closing
-    mul-active
-    element-write-active
-    add-p
-    loop-less
-    loop-again
-    returns)
+load-phases-spec = tie.close (tie.spec
+    Inv-loop μ-loop loop-holds (λ c κs. search needs) (λ c. omega (arith, few (c .before))) (λ c. omega (arith, few (c .before)))
+    (λ c. omega (arith, few (c .before))) (λ c. omega (arith, few (c .before))) (λ c. omega (arith, few (c .before)))
+    (λ c. omega (arith, few (c .before))) loop-less loop-again returns)

@@ -1,4 +1,4 @@
--- `shift` takes one of equation 1's two differences, each of which is no less than zero.
+-- `shift` takes one of the shift's two differences, each of which is no less than zero.
 use mathlib.Core.Path.{refl}
 use native.Mathlib.Omega.{arith}
 use Rattle.timing.proofs.load.shift.Statement.{statement}
@@ -20,11 +20,4 @@ returns-2 : tie.Need-returns-2
 returns-2 c = (λ l. let z : ⊥ = omega (arith, l, c .if1 .left) in absurd z, λ l. refl)
 
 pub shift-spec : {M : Type 1} → statement M
-shift-spec =
-    tie.close
-    (tie.spec
-    sub-result
-    add-result
-    sub-result-2
-    returns
-    returns-2)
+shift-spec = tie.close (tie.spec sub-result add-result sub-result-2 returns returns-2)

@@ -2,15 +2,17 @@
 use mathlib.Core.Path.{_≡_}
 use Prim.Native.Nat.{_-_, _≤_}
 use native.Mathlib.Omega.{arith}
-use Rattle.tables.specs.Net.{timesOf}
-use Rattle.tables.specs.Ranks.{firstRank}
-use Rattle.tables.proofs.Filled.{Filled, fill-none, fill-more}
+use Rattle.tables.specs.inside.Net.{timesOf}
+use Rattle.tables.specs.inside.Ranks.{firstRank}
+use Rattle.tables.specs.inside.Filled.{Filled}
+use Rattle.tables.proofs.Filled.{fill-none, fill-more}
 use borrow.Author.Needs.{needs}
 use Rattle.timing.proofs.ranks.begin.Statement.{statement}
 use Rattle.timing.proofs.ranks.begin.Tie as tie
+use Rattle.tables.specs.inside.Sizes.{NODES}
 
 abbrev Inv-loop : tie.InvT-loop
-Inv-loop launch departs l ranks₀ i₀ ranks i = (i ≤ l) × Filled 512 (firstRank (timesOf launch) (timesOf departs)) ranks i
+Inv-loop launch departs l ranks₀ i₀ ranks i = (i ≤ l) × Filled NODES (firstRank (timesOf launch) (timesOf departs)) ranks i
 
 abbrev μ-loop : tie.MeasureT-loop
 μ-loop launch departs l ranks₀ i₀ ranks i = l - i
@@ -20,9 +22,6 @@ loop-holds c = (omega arith, fill-none (c .pre .1))
 
 first-rank-requires : tie.Need-first-rank-requires Inv-loop μ-loop
 first-rank-requires c κs = omega (arith, c .before .before .pre .0, c .loop-test .taken)
-
-mul-ranks : tie.Need-mul-ranks Inv-loop μ-loop
-mul-ranks c = search needs
 
 element-write-ranks : tie.Need-element-write-ranks Inv-loop μ-loop
 element-write-ranks c = omega (arith, c .before .before .before .pre .0, c .before .loop-test .taken)
@@ -42,16 +41,5 @@ returns c =
     rw e at (c .before .loop .inv .1)
 
 pub begin-spec : {M : Type 1} → statement M
-begin-spec =
-    tie.close
-    (tie.spec
-    Inv-loop
-    μ-loop
-    loop-holds
-    first-rank-requires
-    mul-ranks
-    element-write-ranks
-    add-i
-    loop-less
-    loop-again
-    returns)
+begin-spec = tie.close (tie.spec
+    Inv-loop μ-loop loop-holds first-rank-requires (λ c. search needs) element-write-ranks add-i loop-less loop-again returns)

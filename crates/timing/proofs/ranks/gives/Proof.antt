@@ -3,9 +3,9 @@ use mathlib.Core.Path.{_≡_, sym, _∙_}
 use Prim.Native.Nat.{_-_, _≤_}
 use native.Mathlib.Omega.{arith}
 use native.Mathlib.Decide.{ℕ-discrete}
-use Rattle.tables.specs.Net.{timesOf, arcsOf}
-use Rattle.tables.specs.Trail.{is, not}
-use Rattle.tables.specs.Ranks.{GivenBy}
+use Rattle.tables.specs.inside.Net.{timesOf, arcsOf}
+use Rattle.tables.specs.inside.Trail.{is, not}
+use Rattle.tables.specs.inside.Ranks.{GivenBy}
 use Rattle.tables.proofs.Ranking.{asked, not-asked}
 use borrow.Author.Needs.{needs}
 use Rattle.timing.proofs.ranks.gives.Statement.{statement}
@@ -29,9 +29,6 @@ returns c =
     let h = asked _ _ _ _ (sym (c .before .hits .ensures) ∙ c .if1 .taken) in
     is (c .before .before .before .loop .a, c .before .before .before .loop .inv .0, c .before .before .loop-test .taken, h .0, h .1)
 
-add-a : tie.Need-add-a Inv-loop μ-loop
-add-a c = search needs
-
 loop-less : tie.Need-loop-less Inv-loop μ-loop
 loop-less c = omega arith
 
@@ -52,15 +49,4 @@ returns-2 c =
     not (rw e at (c .before .loop .inv .2))
 
 pub gives-spec : {M : Type 1} → statement M
-gives-spec =
-    tie.close
-    (tie.spec
-    Inv-loop
-    μ-loop
-    loop-holds
-    hits-requires
-    returns
-    add-a
-    loop-less
-    loop-again
-    returns-2)
+gives-spec = tie.close (tie.spec Inv-loop μ-loop loop-holds hits-requires returns (λ c. search needs) loop-less loop-again returns-2)

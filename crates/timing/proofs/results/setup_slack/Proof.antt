@@ -6,17 +6,8 @@ use borrow.Author.Needs.{needs}
 use Rattle.timing.proofs.results.setup_slack.Statement.{statement}
 use Rattle.timing.proofs.results.setup_slack.Tie as tie
 
-add-minus : tie.Need-add-minus
-add-minus c = search needs
-
-sub-minus : tie.Need-sub-minus
-sub-minus c = search needs
-
-minus-requires : tie.Need-minus-requires
-minus-requires c κs = search needs
-
 returns : tie.Need-returns
 returns c = let x = c .before .args in out-of-word _ (c .minus .ok) ∙ c .minus .ensures ∙ setup-is (x .arrival) (x .cycle) (x .setup) (omega arith)
 
 pub setup-slack-spec : {M : Type 1} → statement M
-setup-slack-spec = tie.close (tie.spec add-minus sub-minus minus-requires returns)
+setup-slack-spec = tie.close (tie.spec (λ c. search needs) (λ c. search needs) (λ c κs. search needs) returns)

@@ -5,11 +5,8 @@ use borrow.Author.Needs.{needs}
 use Rattle.timing.proofs.results.time.Statement.{statement}
 use Rattle.timing.proofs.results.time.Tie as tie
 
-minus-requires : tie.Need-minus-requires
-minus-requires c κs = search needs
-
 returns : tie.Need-returns
 returns c = out-of-word _ (c .minus .ok) ∙ c .minus .ensures ∙ time-is (c .before .args .t)
 
 pub time-spec : {M : Type 1} → statement M
-time-spec = tie.close (tie.spec minus-requires returns)
+time-spec = tie.close (tie.spec (λ c κs. search needs) returns)

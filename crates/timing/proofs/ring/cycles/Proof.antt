@@ -7,9 +7,6 @@ use borrow.Author.Needs.{needs}
 use Rattle.timing.proofs.ring.cycles.Statement.{statement}
 use Rattle.timing.proofs.ring.cycles.Tie as tie
 
-wide-requires : tie.Need-wide-requires
-wide-requires c κs = search needs
-
 mul-result : tie.Need-mul-result
 mul-result c = omega (arith, mul-le-mul-right (c .wide .result) (c .before .pre), c .wide .ensures .1)
 
@@ -20,4 +17,4 @@ returns c = (
 )
 
 pub cycles-spec : {M : Type 1} → statement M
-cycles-spec = tie.close (tie.spec wide-requires mul-result returns)
+cycles-spec = tie.close (tie.spec (λ c κs. search needs) mul-result returns)

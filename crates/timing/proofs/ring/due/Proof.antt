@@ -9,11 +9,8 @@ use Rattle.timing.proofs.ring.due.Tie as tie
 returns : tie.Need-returns
 returns c = λ e. let z : _≡_ {A = ℕ} 0 1 = cc in let k : ⊥ = omega arith in absurd k
 
-sub-result : tie.Need-sub-result
-sub-result c = search needs
-
 returns-2 : tie.Need-returns-2
 returns-2 c = λ e q. c .if1 .left q
 
 pub due-spec : {M : Type 1} → statement M
-due-spec = tie.close (tie.spec returns sub-result returns-2)
+due-spec = tie.close (tie.spec returns (λ c. search needs) returns-2)

@@ -4,9 +4,9 @@ use Prim.Native.Nat.{_-_}
 use native.Mathlib.Omega.{arith}
 use mir.Syntax.{w64}
 use mir.ValLaws.{toZ-ofZ}
-use Rattle.tables.specs.Net.{timesOf}
-use Rattle.timing.specs.Ring.{routeBack}
-use Rattle.timing.proofs.Route.{leads-join}
+use Rattle.tables.specs.inside.Net.{timesOf}
+use Rattle.timing.specs.inside.Ring.{routeBack}
+use Rattle.timing.proofs.WalkBackArcs.{leads-join}
 use borrow.Author.Needs.{needs}
 use Rattle.timing.proofs.ring.gained.Statement.{statement}
 use Rattle.timing.proofs.ring.gained.Tie as tie
@@ -14,37 +14,16 @@ use Rattle.timing.proofs.ring.gained.Tie as tie
 total-requires : tie.Need-total-requires
 total-requires c κs = (omega arith, λ d l. c .pre .1 d (omega arith))
 
-total-requires-2 : tie.Need-total-requires-2
-total-requires-2 c κs = search needs
-
-add-sum : tie.Need-add-sum
-add-sum c = search needs
-
-sub-cycles : tie.Need-sub-cycles
-sub-cycles c = search needs
-
-cycles-requires : tie.Need-cycles-requires
-cycles-requires c κs = search needs
-
-minus-requires : tie.Need-minus-requires
-minus-requires c κs = search needs
-
 returns : tie.Need-returns
 returns c =
-    let x = c .before .before .before .before .args in
-    let one = c .before .before .before .total .ensures .0 in
-    let two = c .before .before .total2 .ensures .0 in
-    let join = leads-join (timesOf (x .lead .now)) (routeBack (timesOf (x .trail .now)) (x .low) (x .low - x .first)) (routeBack (timesOf (x .trail .now)) (x .second) (x .second - x .low)) in
-    toZ-ofZ w64 (c .minus .result) (record { sfits = c .minus .ok }) ∙ rw (join, ← one, ← two, ← c .before .cycles .ensures .0) (c .minus .ensures)
+    let two = c .before .before in
+    let one = two .before in
+    let x = one .before .args in
+    let back = routeBack (timesOf (x .trail .now)) in
+    let join = leads-join (timesOf (x .lead .now)) (back (x .low) (x .low - x .first)) (back (x .second) (x .second - x .low)) in
+    toZ-ofZ w64 (c .minus .result) (record { sfits = c .minus .ok })
+    ∙ rw (join, ← one .total .ensures .0, ← two .total2 .ensures .0, ← c .before .cycles .ensures .0) (c .minus .ensures)
 
 pub gained-spec : {M : Type 1} → statement M
-gained-spec =
-    tie.close
-    (tie.spec
-    total-requires
-    total-requires-2
-    add-sum
-    sub-cycles
-    cycles-requires
-    minus-requires
-    returns)
+gained-spec = tie.close (tie.spec
+    total-requires (λ c κs. search needs) (λ c. search needs) (λ c. search needs) (λ c κs. search needs) (λ c κs. search needs) returns)

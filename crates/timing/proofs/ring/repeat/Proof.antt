@@ -2,9 +2,9 @@
 use mathlib.Core.Path.{_≡_}
 use Prim.Native.Nat.{_≤_, _-_, _+_}
 use native.Mathlib.Omega.{arith}
-use Rattle.tables.specs.Net.{timesOf}
-use Rattle.timing.specs.Ring.{Placed}
-use Rattle.timing.proofs.Places.{fresh-few, placed-none, placed-fresh, placed-twice, placed-more}
+use Rattle.tables.specs.inside.Net.{timesOf}
+use Rattle.timing.specs.inside.Ring.{Placed}
+use Rattle.timing.proofs.WalkBackPlaces.{fresh-few, placed-none, placed-fresh, placed-twice, placed-more}
 use borrow.Author.Needs.{needs}
 use Rattle.timing.proofs.ring.repeat.Statement.{statement}
 use Rattle.timing.proofs.ring.repeat.Tie as tie
@@ -17,85 +17,44 @@ abbrev μ-loop : tie.MeasureT-loop
 μ-loop nodes l places₀ d₀ places d = l + 1 - d
 
 loop-holds : tie.Need-loop-holds Inv-loop μ-loop
-loop-holds c = (omega arith, placed-none _)
-
-mul-index : tie.Need-mul-index Inv-loop μ-loop
-mul-index c = search needs
-
-element-copy-out-index : tie.Need-element-copy-out-index Inv-loop μ-loop
-element-copy-out-index c = search needs
-
-index-requires : tie.Need-index-requires Inv-loop μ-loop
-index-requires c κs = search needs
-
-mul-index-2 : tie.Need-mul-index-2 Inv-loop μ-loop
-mul-index-2 c = search needs
+loop-holds c = (omega arith, placed-none)
 
 array-read-index : tie.Need-array-read-index Inv-loop μ-loop
 array-read-index c =
     let b = c .before .before .before .before in
     omega (arith, c .index .ensures .0, b .pre .0, b .pre .1 (c .before .before .before .loop .d) (omega (arith, c .before .before .loop-test .taken)))
 
-index-requires-2 : tie.Need-index-requires-2 Inv-loop μ-loop
-index-requires-2 c κs = search needs
-
-sub-first : tie.Need-sub-first Inv-loop μ-loop
-sub-first c = search needs
-
 returns : tie.Need-returns Inv-loop μ-loop
 returns c =
     let a = c .before .before in
     let l = a .before .before .before .loop in
-    placed-twice _ (l .d) (l .places) (l .inv .1) _ _ (omega (arith, a .before .before .loop-test .taken)) (rw (← a .index .ensures .0) (omega (arith, c .before .index2 .ensures .0, c .if1 .taken)))
-
-add-d : tie.Need-add-d Inv-loop μ-loop
-add-d c = search needs
+    placed-twice (l .inv .1) (omega (arith, a .before .before .loop-test .taken)) (rw (← a .index .ensures .0) (omega (arith, c .before .index2 .ensures .0, c .if1 .taken)))
 
 narrow-requires : tie.Need-narrow-requires Inv-loop μ-loop
 narrow-requires c κs = omega (arith, c .before .before .before .before .before .before .pre .0, c .before .before .before .before .loop-test .taken)
 
-mul-places : tie.Need-mul-places Inv-loop μ-loop
-mul-places c = search needs
-
 array-write-places : tie.Need-array-write-places Inv-loop μ-loop
 array-write-places c = array-read-index (c .before .before .before)
-
-loop-less : tie.Need-loop-less Inv-loop μ-loop
-loop-less c = search needs
 
 loop-again : tie.Need-loop-again Inv-loop μ-loop
 loop-again c =
     let a = c .before .before .before in
     let l = a .before .before .before .loop in
-    let e = a .index .ensures .0 in
-    (omega (arith, a .before .before .loop-test .taken), rw (e, c .narrow .ensures) (placed-more _ (l .d) (l .places) (l .inv .1) (rw e at (array-read-index a)) (rw (← e) (omega (arith, c .before .before .index2 .ensures .0, c .before .if1 .left)))))
+    let e = a .index .ensures .0 in (
+      omega (arith, a .before .before .loop-test .taken),
+      rw (e, c .narrow .ensures) (placed-more (l .inv .1) (rw e at (array-read-index a))
+          (rw (← e) (omega (arith, c .before .before .index2 .ensures .0, c .before .if1 .left)))),
+    )
 
 returns-2 : tie.Need-returns-2 Inv-loop μ-loop
 returns-2 c =
     let x = c .before .before .args in
     let l = c .before .loop in
     let e : l .d ≡ x .l + 1 = omega arith in
-    absurd (fresh-few (timesOf (x .nodes .now)) (x .l) (c .before .before .pre .1) (placed-fresh _ _ (l .places) (rw e at (l .inv .1))))
+    absurd (fresh-few (timesOf (x .nodes .now)) (x .l) (c .before .before .pre .1) (placed-fresh (rw e at (l .inv .1))))
 
 pub repeat-spec : {M : Type 1} → statement M
-repeat-spec =
-    tie.close
-    (tie.spec
-    Inv-loop
-    μ-loop
-    loop-holds
-    mul-index
-    element-copy-out-index
-    index-requires
-    mul-index-2
-    array-read-index
-    index-requires-2
-    sub-first
-    returns
-    add-d
-    narrow-requires
-    mul-places
-    array-write-places
-    loop-less
-    loop-again
-    returns-2)
+repeat-spec = tie.close (tie.spec
+    Inv-loop μ-loop loop-holds (λ c. search needs) (λ c. search needs) (λ c κs. search needs) (λ c. search needs) array-read-index
+    (λ c κs. search needs) (λ c. search needs) returns (λ c. search needs) narrow-requires (λ c. search needs) array-write-places (λ c. search needs)
+    loop-again returns-2)

@@ -7,35 +7,18 @@ use borrow.Author.Needs.{needs}
 use Rattle.timing.proofs.ring.show.Statement.{statement}
 use Rattle.timing.proofs.ring.show.Tie as tie
 
-repeat-requires : tie.Need-repeat-requires
-repeat-requires c κs = search needs
-
-lowest-requires : tie.Need-lowest-requires
-lowest-requires c κs = search needs
-
-put-requires : tie.Need-put-requires
-put-requires c κs = search needs
-
-sub-counted : tie.Need-sub-counted
-sub-counted c = search needs
-
-counted-requires : tie.Need-counted-requires
-counted-requires c κs = search needs
-
 gained-requires : tie.Need-gained-requires
 gained-requires c κs =
-    let b = c .before .before .before .before .before .before .before .before in
-    let r = c .before .before .before .before .before .before .repeat .ensures in
-    let l = c .before .before .before .before .before .lowest .ensures in
-    ((l .above, l .below, omega (arith, r .bound, b .pre .0)), λ d k. b .pre .1 .1 .0 d (omega (arith, k, r .bound)))
-
-same-length : tie.Need-same-length
-same-length c = search needs
+    let lowest = c .before .before .before .before .before in
+    let h = lowest .before .before .before .pre in
+    let r = lowest .before .repeat .ensures in
+    ((lowest .lowest .ensures .above, lowest .lowest .ensures .below, omega (arith, r .bound, h .0)), λ d k. h .1 .1 .0 d (omega (arith, k, r .bound)))
 
 returns : tie.Need-returns
 returns c =
-    let repeat = c .before .before .before .before .before .before .before .repeat in
-    let lowest = c .before .before .before .before .before .before .lowest in
+    let put = c .before .before .before .before in
+    let lowest = put .before .before .lowest in
+    let repeat = put .before .before .before .repeat in
     record {
       first = repeat .result .first;
       second = repeat .result .second;
@@ -44,18 +27,10 @@ returns c =
       lowest = lowest .ensures;
       counted = c .before .counted .ensures;
       gains = toZ-ofZ w64 (c .gained .result) (record { sfits = c .gained .ok }) ∙ c .gained .ensures;
-      written = c .before .before .before .before .put .ensures;
+      written = put .put .ensures;
     }
 
 pub show-spec : {M : Type 1} → statement M
-show-spec =
-    tie.close
-    (tie.spec
-    repeat-requires
-    lowest-requires
-    put-requires
-    sub-counted
-    counted-requires
-    gained-requires
-    same-length
-    returns)
+show-spec = tie.close (tie.spec
+    (λ c κs. search needs) (λ c κs. search needs) (λ c κs. search needs) (λ c. search needs) (λ c κs. search needs) gained-requires
+    (λ c. search needs) returns)

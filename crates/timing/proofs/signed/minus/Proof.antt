@@ -11,23 +11,18 @@ use borrow.Author.Needs.{needs}
 use Rattle.ticks.proofs.Ints.{ints, up, down, apart, diff}
 use Rattle.timing.proofs.signed.minus.Statement.{statement}
 use Rattle.timing.proofs.signed.minus.Tie as tie
+use Rattle.ticks.specs.inside.Raised.{SIGNED}
 
 mag-between : (z : ℤ) (a b k : ℕ) → up z + b ≡ a + down z → a < k → b < k → mag z < k
 mag-between (pos n) a b k e l m = omega arith
 mag-between (negsuc n) a b k e l m = omega arith
 
-module _ (a b : ℕ) (h : (a < 9223372036854775808) × (b < 9223372036854775808)) where
+module _ (a b : ℕ) (h : (a < SIGNED) × (b < SIGNED)) where
   apart-is : (toZ w64 a -ℤ toZ w64 b) ≡ subℕ a b
   apart-is = rw (toZ-pos w64 a (omega arith), toZ-pos w64 b (omega arith)) (omega (ints, diff (pos a) (pos b), apart a b))
 
   apart-fits : SFits w64 (toZ w64 a -ℤ toZ w64 b)
   apart-fits = record { sfits = rw apart-is (mag-between (subℕ a b) a b (2 ^ 63) (apart a b) (omega arith) (omega arith)) }
-
-cast-result : tie.Need-cast-result
-cast-result c = search needs
-
-cast-result-2 : tie.Need-cast-result-2
-cast-result-2 c = search needs
 
 sub-result : tie.Need-sub-result
 sub-result c = apart-fits (c .args .a) (c .args .b) (c .pre)
@@ -36,4 +31,4 @@ returns : tie.Need-returns
 returns c = let a = c .args in toZ-ofZ w64 _ (apart-fits (a .a) (a .b) (c .pre)) ∙ apart-is (a .a) (a .b) (c .pre)
 
 pub minus-spec : {M : Type 1} → statement M
-minus-spec = tie.close (tie.spec cast-result cast-result-2 sub-result returns)
+minus-spec = tie.close (tie.spec (λ c. search needs) (λ c. search needs) sub-result returns)

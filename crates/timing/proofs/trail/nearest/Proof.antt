@@ -4,9 +4,9 @@ use mathlib.Core.Logic.{inl, inr}
 use Prim.Native.Nat.{_-_, _≤_, _<_}
 use native.Mathlib.Omega.{arith}
 use borrow.Author.Needs.{needs}
-use Rattle.tables.specs.Net.{timesOf, arcsOf}
-use Rattle.tables.specs.Trail.{Nearest}
-use Rattle.tables.proofs.Nearer.{nearest-one, nearest-stays, nearest-moves, tells-true, tells-false}
+use Rattle.tables.specs.inside.Net.{timesOf, arcsOf}
+use Rattle.tables.specs.inside.Trail.{Nearest}
+use Rattle.tables.proofs.NearestArc.{nearest-one, nearest-stays, nearest-moves, tells-true, tells-false}
 use Rattle.timing.proofs.trail.nearest.Statement.{statement}
 use Rattle.timing.proofs.trail.nearest.Tie as tie
 
@@ -17,13 +17,8 @@ Inv-loop source lead cycle departs ranks from to arc₀ a₀ arc a =
 abbrev μ-loop : tie.MeasureT-loop
 μ-loop source lead cycle departs ranks from to arc₀ a₀ arc a = to - a
 
-add-a : tie.Need-add-a Inv-loop μ-loop
-add-a c = search needs
-
 loop-holds : tie.Need-loop-holds Inv-loop μ-loop
-loop-holds c =
-    let x = c .args in
-    (omega arith, omega arith, nearest-one (arcsOf (x .source .now) (x .lead .now) (x .cycle)) (timesOf (x .departs .now)) (timesOf (x .ranks .now)) (x .from))
+loop-holds c = (omega arith, omega arith, nearest-one)
 
 ahead-requires : tie.Need-ahead-requires Inv-loop μ-loop
 ahead-requires c κs =
@@ -31,22 +26,15 @@ ahead-requires c κs =
     let t = c .before .before .pre .1 in
     (record { arcs = _; reachable = t; here = c .loop-test .taken }, record { arcs = _; reachable = t; here = omega (arith, l .inv .1, l .inv .2 .below) })
 
-add-a-2 : tie.Need-add-a-2 Inv-loop μ-loop
-add-a-2 c = search needs
-
 loop-less : tie.Need-loop-less Inv-loop μ-loop
 loop-less c = omega arith
 
 loop-again : tie.Need-loop-again Inv-loop μ-loop
 loop-again c =
-    let x = c .before .before .before .before .args in
-    let g = arcsOf (x .source .now) (x .lead .now) (x .cycle) in
-    let D = timesOf (x .departs .now) in
-    let R = timesOf (x .ranks .now) in
     let l = c .before .before .before .loop in
     elim (c .if1 .came) [
-      | inl w ↦ rw (w .1) (omega arith, omega arith, nearest-moves g D R (x .from) (l .arc) (l .a) (l .inv .2) (tells-true (c .before .ahead .ensures) (w .0 .taken)))
-      | inr w ↦ rw (w .1) (omega arith, omega arith, nearest-stays g D R (x .from) (l .arc) (l .a) (l .inv .2) (tells-false (c .before .ahead .ensures) (w .0 .left)))
+      | inl w ↦ rw (w .1) (omega arith, omega arith, nearest-moves (l .inv .2) (tells-true (c .before .ahead .ensures) (w .0 .taken)))
+      | inr w ↦ rw (w .1) (omega arith, omega arith, nearest-stays (l .inv .2) (tells-false (c .before .ahead .ensures) (w .0 .left)))
     ]
 
 returns : tie.Need-returns Inv-loop μ-loop
@@ -55,6 +43,4 @@ returns c =
     rw e at (c .before .loop .inv .2)
 
 pub nearest-spec : {M : Type 1} → statement M
-nearest-spec =
-    tie.close
-    (tie.spec Inv-loop μ-loop add-a loop-holds ahead-requires add-a-2 loop-less loop-again returns)
+nearest-spec = tie.close (tie.spec Inv-loop μ-loop (λ c. search needs) loop-holds ahead-requires (λ c. search needs) loop-less loop-again returns)

@@ -2,6 +2,7 @@
 use mathlib.Core.Path.{_≡_, sym, _∙_}
 use mathlib.Core.List.{[], _∷_}
 use borrow.Author.Needs.{needs}
+use Rattle.image.specs.Header.{arcBytes}
 use Rattle.image.specs.Records.{arcAt}
 use Rattle.image.specs.declared.reader.Table.the-variants.{Arcs}
 use Rattle.image.specs.declared.reader.Record.the-variants as found
@@ -19,9 +20,12 @@ first-requires : tie.Need-first-requires
 first-requires c κs = search needs
 
 -- the reader finds the record
-here : (c : tie.After-first) → (let a = c .before .before .before .args in c .first .result ≡ found.Arc (arcAt (a .bytes .now) (a .layout) (a .i)))
+here : (c : tie.After-first) → (let a = c .before .before .before .args in
+    c .first .result ≡ found.Arc (arcAt (a .bytes .now) (a .layout) (a .i)))
 unfolding arcAt
-here c = let a = c .before .before .before .args in c .first .ensures ∙ lone (a .bytes .now) Arcs 16 (c .before .place .ensures .0)
+here c =
+    let a = c .before .before .before .args in
+    c .first .ensures ∙ lone (a .bytes .now) Arcs arcBytes (c .before .place .ensures .0)
 
 enum-known-arc : tie.Need-enum-known-arc
 enum-known-arc c = search needs

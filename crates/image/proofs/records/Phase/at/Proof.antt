@@ -3,15 +3,16 @@ use Prim.Native.Nat.{_+_, _≤_}
 use native.Mathlib.Omega.{arith}
 use lib.ListN.{length}
 use borrow.Author.Needs.{needs}
-use Rattle.image.proofs.Places.{fits-within}
+use Rattle.image.specs.Header.{phaseBytes}
+use Rattle.image.proofs.RecordPlaces.{fits-within}
 use Rattle.image.proofs.records.Phase.at.Statement.{statement}
 use Rattle.image.proofs.records.Phase.at.Tie as tie
 
 fits-requires : tie.Need-fits-requires
 fits-requires c κs = search needs
 
-within : (c : tie.Then1) → (let a = c .before .before .before .args in a .at + 8 ≤ length (a .bytes .now))
-within c = let a = c .before .before .before .args in fits-within (a .at) 8 (length (a .bytes .now)) (c .before .fits2 .ensures) (c .if1 .taken)
+within : (c : tie.Then1) → (let a = c .before .before .before .args in a .at + phaseBytes ≤ length (a .bytes .now))
+within c = fits-within _ _ _ (c .before .fits2 .ensures) (c .if1 .taken)
 
 whole-requires : tie.Need-whole-requires
 whole-requires c κs = omega (arith, within c)

@@ -2,6 +2,7 @@
 use mathlib.Core.Path.{_≡_, sym, _∙_}
 use mathlib.Core.List.{[], _∷_}
 use borrow.Author.Needs.{needs}
+use Rattle.image.specs.Header.{phaseBytes}
 use Rattle.image.specs.Records.{phaseAt}
 use Rattle.image.specs.declared.reader.Table.the-variants.{Phases}
 use Rattle.image.specs.declared.reader.Record.the-variants as found
@@ -19,9 +20,12 @@ first-requires : tie.Need-first-requires
 first-requires c κs = search needs
 
 -- the reader finds the record
-here : (c : tie.After-first) → (let a = c .before .before .before .args in c .first .result ≡ found.Phase (phaseAt (a .bytes .now) (a .layout) (a .i)))
+here : (c : tie.After-first) → (let a = c .before .before .before .args in
+    c .first .result ≡ found.Phase (phaseAt (a .bytes .now) (a .layout) (a .i)))
 unfolding phaseAt
-here c = let a = c .before .before .before .args in c .first .ensures ∙ lone (a .bytes .now) Phases 8 (c .before .place .ensures .0)
+here c =
+    let a = c .before .before .before .args in
+    c .first .ensures ∙ lone (a .bytes .now) Phases phaseBytes (c .before .place .ensures .0)
 
 enum-known-phase : tie.Need-enum-known-phase
 enum-known-phase c = search needs

@@ -1,7 +1,6 @@
 -- `Synchronizer::at` reads the record whole where it lies within the image, and field by field elsewhere.
-use lib.ListN.{length}
 use borrow.Author.Needs.{needs}
-use Rattle.image.proofs.Places.{fits-within}
+use Rattle.image.proofs.RecordPlaces.{fits-within}
 use Rattle.image.proofs.records.Synchronizer.at.Statement.{statement}
 use Rattle.image.proofs.records.Synchronizer.at.Tie as tie
 
@@ -9,7 +8,7 @@ fits-requires : tie.Need-fits-requires
 fits-requires c κs = search needs
 
 whole-requires : tie.Need-whole-requires
-whole-requires c κs = fits-within (c .before .before .before .args .at) 24 (length (c .before .before .before .args .bytes .now)) (c .before .fits2 .ensures) (c .if1 .taken)
+whole-requires c κs = fits-within _ _ _ (c .before .fits2 .ensures) (c .if1 .taken)
 
 cut-requires : tie.Need-cut-requires
 cut-requires c κs = search needs

@@ -22,9 +22,12 @@ first-requires : tie.Need-first-requires
 first-requires c κs = search needs
 
 -- the reader finds the record
-here : (c : tie.After-first) → (let a = c .before .before .before .before .args in c .first .result ≡ found.Synchronizer (synchronizerAt (a .bytes .now) (a .layout) (a .i)))
+here : (c : tie.After-first) → (let a = c .before .before .before .before .args in
+    c .first .result ≡ found.Synchronizer (synchronizerAt (a .bytes .now) (a .layout) (a .i)))
 unfolding synchronizerAt
-here c = let a = c .before .before .before .before .args in c .first .ensures ∙ lone (a .bytes .now) Synchronizers (a .layout .«synchronizer_bytes») (c .before .before .place .ensures .0)
+here c =
+    let a = c .before .before .before .before .args in
+    c .first .ensures ∙ lone (a .bytes .now) Synchronizers (a .layout .«synchronizer_bytes») (c .before .before .place .ensures .0)
 
 enum-known-synchronizer : tie.Need-enum-known-synchronizer
 enum-known-synchronizer c = search needs

@@ -1,0 +1,5 @@
+-- What only the proofs of this crate and of those above it lean on. No promise of a public call names it.
+pub mod Updates
+pub mod Within
+pub mod WalkBack
+pub mod Rounds
