@@ -32,10 +32,10 @@ shown f before ring =
     (length p, gain f p, p ++ drop (length p) before, record { grows = t .0; lowest = t .1; counted = refl; gains = refl; written = refl })
 
 module _ (bytes : List ℕ) (numbers : List ℤ) (arcs : List ℕ) where
-  abbrev Answered : Type 0
-  Answered = (X : Answer) × (R : List ℤ) × (A : List ℕ) × Timing bytes numbers arcs X R A
+  abbrev SomeTiming : Type 0
+  SomeTiming = (X : Answer) × (R : List ℤ) × (A : List ℕ) × Timing bytes numbers arcs X R A
 
-  serving : Served bytes numbers arcs → Answered
+  serving : Served bytes numbers arcs → SomeTiming
   serving s =
       let c = circuitOf bytes in
       let v = served-sound bytes numbers arcs s in
@@ -44,7 +44,7 @@ module _ (bytes : List ℕ) (numbers : List ℤ) (arcs : List ℕ) where
         | inr ring ↦ (let h = shown (flow late c) arcs ring in (Growing (h .0) (h .1), numbers, h .2, growing s (h .3)))
       ]
 
-  accepting : checkOf bytes ≡ check.Good (imageIn bytes) → Answered
+  accepting : checkOf bytes ≡ check.Good (imageIn bytes) → SomeTiming
   accepting ok = elim (decLt (length numbers) (6 * circuitOf bytes .synchronizers)) [
     | yes l ↦ (Refused 10 0, numbers, arcs, few-numbers ok l)
     | no l ↦ elim (decLt (length arcs) (circuitOf bytes .synchronizers)) [
@@ -53,10 +53,10 @@ module _ (bytes : List ℕ) (numbers : List ℤ) (arcs : List ℕ) where
     ]
   ]
 
-  pub timing-some : Answered
+  pub timing-some : SomeTiming
   timing-some = go (checkOf bytes) refl
     where
-      go : (c : Checked) → checkOf bytes ≡ c → Answered
+      go : (c : Checked) → checkOf bytes ≡ c → SomeTiming
       go (check.Refused rule culprit) e = (Refused rule culprit, numbers, arcs, refused e)
       go (check.Good image) e = accepting (rw (accepted-is bytes image e) at e)
 

@@ -64,9 +64,9 @@ pull s f D E i h = go (f .latch i) refl (find s f D i) (find s f E i) h
         )
 
 -- round n changed i
-abbrev Rose : Side → Flow → ℕ → ℕ → Type 0
-Rose s f zero i = Unit {0}
-Rose s f (suc n) i = round s f n i <ℤ round s f (suc n) i
+abbrev RoseInRound : Side → Flow → ℕ → ℕ → Type 0
+RoseInRound s f zero i = Unit {0}
+RoseInRound s f (suc n) i = round s f n i <ℤ round s f (suc n) i
 
 -- the arc a from i changes the latch j at round n + 1
 pub record Link (s : Side) (f : Flow) (n i a j : ℕ) : Type 0 where
@@ -76,7 +76,7 @@ pub record Link (s : Side) (f : Flow) (n i a j : ℕ) : Type 0 where
   pub rose : round s f n j <ℤ round s f (suc n) j
 
 link : (s : Side) (f : Flow) (n j : ℕ) (D : ℕ → ℤ) (u : ℤ) (a : ℕ) →
-    Rose s f (suc n) j → Pull f D (round s f n) j u (round s f (suc n) j) a → Link s f n (f .source a) a j
+    RoseInRound s f (suc n) j → Pull f D (round s f n) j u (round s f (suc n) j) a → Link s f n (f .source a) a j
 link s f n j D u a h p = record {
   step = record { here = p .here; from = refl; holds = rw (p .enters) (p .holds) };
   enters = p .enters;
@@ -85,7 +85,7 @@ link s f n j D u a h p = record {
 }
 
 -- where round n + 1 changed j, an arc did, from a node that round n changed
-back : (s : Side) (f : Flow) (n j : ℕ) → Rose s f (suc n) j → (a : ℕ) × Link s f n (f .source a) a j × Rose s f n (f .source a)
+back : (s : Side) (f : Flow) (n j : ℕ) → RoseInRound s f (suc n) j → (a : ℕ) × Link s f n (f .source a) a j × RoseInRound s f n (f .source a)
 unfolding round
 back s f zero j h = let p = pull s f (f .launch) (f .launch) j h in (p .0, link s f zero j (f .launch) _ (p .0) h (p .1), tt)
 back s f (suc n) j h =
@@ -129,7 +129,7 @@ extend s f n u a l h c = record {
     links zero k e = let q : k ≡ n = omega arith in rw (q, c .ends) h
     links (suc d) k e = c .trail .link d k (omega arith)
 
-chain : (s : Side) (f : Flow) → Good f → (n u : ℕ) → u < f .nodes → Rose s f n u → Chain s f n u
+chain : (s : Side) (f : Flow) → Good f → (n u : ℕ) → u < f .nodes → RoseInRound s f n u → Chain s f n u
 chain s f good zero u l h = record {
   node = λ d. u;
   arc = λ d. 0;

@@ -97,18 +97,18 @@ module _ {M : Type 1} (𝓤 : URA M) (H : Heap 𝓤) (A : Atoms 𝓤) (W : Given
       use1 W (‵ (ownAt (D .parts) L 0 (d .bytes)) ⊛ ‵ (rest (D .parts) L 0 vd)) (own-out 𝓤 H A W (D .parts) L 0 vd) $ split ! $ move ! (1 ∷ []) $ drop ! $ done !)
 
 module _ {M : Type 1} (𝓤 : URA M) (H : Heap 𝓤) (A : Atoms 𝓤) (mem : Memory → SProp 𝓤) (run : Routine → Fun 𝓤) where
-  abbrev pub Onward : Contract 𝓤
-  Onward = tripleOf 𝓤 H A onward.signature (onward.spec 𝓤 H A mem run)
+  abbrev pub OnwardContract : Contract 𝓤
+  OnwardContract = tripleOf 𝓤 H A onward.signature (onward.spec 𝓤 H A mem run)
 
   abbrev pub New : Contract 𝓤
   New = tripleOf 𝓤 H A new.signature (new.spec 𝓤 H A mem run)
 
 -- the call of `onward`: what it is passed, what it asks, and what is known of its result
 module _ {M : Type 1} (𝓤 : URA M) (H : Heap 𝓤) (A : Atoms 𝓤) (W : Given 𝓤 H A) (mem : Memory → SProp 𝓤) (run : Routine → Fun 𝓤) (i m n : ℕ) where
-  abbrev pub to-onward : Onward 𝓤 H A mem run .Ghost
+  abbrev pub to-onward : OnwardContract 𝓤 H A mem run .Ghost
   to-onward = ((tt, tt, tt, (i, (m, (n, tt))), (vint w64 i ∷ [], (vint w64 m ∷ [], (vint w64 n ∷ [], tt)))), tt)
 
-  pub goes-onward : i < 2 ^ 64 → m < 2 ^ 64 → n < 2 ^ 64 → ent 𝓤 (emp 𝓤) (Onward 𝓤 H A mem run .pre to-onward)
+  pub goes-onward : i < 2 ^ 64 → m < 2 ^ 64 → n < 2 ^ 64 → ent 𝓤 (emp 𝓤) (OnwardContract 𝓤 H A mem run .pre to-onward)
   goes-onward at-ok size-ok end-ok =
       qed W [] ∵ nothing ! $ number ! n end-ok $ number ! m size-ok $ number ! i at-ok $ nothing ! $ join ! $ frame ! $ done !
 

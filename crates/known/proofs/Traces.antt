@@ -27,14 +27,14 @@ module _ (f : Flow) (n : ℕ) where
       (equalℤ (round late f (rankOf j) j) (departures j) and below (λ m. unequalℤ (round late f m j) (departures j)) (rankOf j))
 
   -- arcs lead from node to node, and every node has the rank computed for it
-  pub record Ranked : Type 0 where
+  pub record RanksComputed : Type 0 where
     pub good : Good f
     pub ranks : (j : ℕ) → j < f .nodes → Rank f departures j (rankOf j)
 
-  pub from-rank : Ranked → (i : ℕ) (t : ℤ) (r a : ℕ) → Brought f departures i t r a → r ≡ rankOf (f .source a)
+  pub from-rank : RanksComputed → (i : ℕ) (t : ℤ) (r a : ℕ) → Brought f departures i t r a → r ≡ rankOf (f .source a)
   from-rank known i t r a h = lowest-unique _ r _ (h .from) (known .ranks (f .source a) (known .good .leaves a (h .here)))
 
-  abbrev taking : (i : ℕ) (t : ℤ) (r a : ℕ) → Check (Ranked → Brought f departures i t r a)
+  abbrev taking : (i : ℕ) (t : ℤ) (r a : ℕ) → Check (RanksComputed → Brought f departures i t r a)
   taking i t r a =
       given
       (λ h known. record {
@@ -47,18 +47,18 @@ module _ (f : Flow) (n : ℕ) where
 
   -- where the arc a brings i the time t, its source's rank has Q
   abbrev having : (i : ℕ) (t : ℤ) {Q : ℕ → Type 0} → ((r : ℕ) → Check (Q r)) →
-      (a : ℕ) → Check (Ranked → (r : ℕ) → Brought f departures i t r a → Q r)
+      (a : ℕ) → Check (RanksComputed → (r : ℕ) → Brought f departures i t r a → Q r)
   having i t check a =
       given (λ d known r h. absurd (d (h .enters))) (unequal (f .target a) i)
       or given (λ d known r h. absurd (d (h .gives))) (unequalℤ (brings f departures a) t)
       or given (λ q known r h. rw (from-rank known i t r a h) q) (check (rankOf (f .source a)))
 
-  abbrev choosing : (i : ℕ) (t : ℤ) (r a : ℕ) → Check (Ranked → Lowest (Brought f departures i t r) a)
+  abbrev choosing : (i : ℕ) (t : ℤ) (r a : ℕ) → Check (RanksComputed → Lowest (Brought f departures i t r) a)
   choosing i t r a =
       given (λ h known. record { holds = h .0 known; lowest = λ b l x. h .1 b l known r x refl })
       (taking i t r a and below (having i t (λ m. unequal m r)) a)
 
-  abbrev ending : (i r a : ℕ) (w : When) → Check (arrival late f departures i ≡ w → Ranked → Last f departures i r a)
+  abbrev ending : (i r a : ℕ) (w : When) → Check (arrival late f departures i ≡ w → RanksComputed → Last f departures i r a)
   ending i r a none = never
   ending i r a (at t) =
       given
@@ -73,7 +73,7 @@ module _ (f : Flow) (n : ℕ) where
       })
       (choosing i t r a and below (having i t (atMost r)) (f .arcs))
 
-  abbrev backing : (s r : ℕ) (p : List ℕ) (i : ℕ) → Check (Ranked → i < f .nodes → Back f departures s r p i)
+  abbrev backing : (s r : ℕ) (p : List ℕ) (i : ℕ) → Check (RanksComputed → i < f .nodes → Back f departures s r p i)
   backing s zero p i =
       given (λ h known l. (rw (h .0) at (known .ranks i l), h .1 .0, h .1 .1))
       (equal (rankOf i) zero and equal s i and equals equal p [])
@@ -96,7 +96,7 @@ module _ (f : Flow) (n : ℕ) where
       let q = take r p in
       given
       (λ h good fits.
-      let known : Ranked = record { good = good; ranks = λ j l. rank-round f good departures fits (rankOf j) j l .1 (h .0 j l) } in
+      let known : RanksComputed = record { good = good; ranks = λ j l. rank-round f good departures fits (rankOf j) j l .1 (h .0 j l) } in
       let end = h .1 .0 refl known in
       record {
         rank = r;

@@ -50,7 +50,7 @@ use Rattle.image.specs.declared.reader.Table.{Table}
 use Rattle.image.specs.declared.reader.Reader.{Reader}
 use Rattle.image.specs.declared.reader.Record.{Record}
 use Rattle.image.proofs.WalkSteps.{arg, sets, lands-in, vacates, number, told}
-use Rattle.image.proofs.ReaderSteps.{last-two, sliceOwns, readerOwns, readerRow, readerType, readerLaws, TableKnown, tabled, bytes-lent, Onward, to-onward, goes-onward, onward-said}
+use Rattle.image.proofs.ReaderSteps.{last-two, sliceOwns, readerOwns, readerRow, readerType, readerLaws, TableKnown, tabled, bytes-lent, OnwardContract, to-onward, goes-onward, onward-said}
 use Rattle.image.proofs.reader.Table as P
 use Rattle.image.proofs.reader.Table.Laws as P′
 use Rattle.image.proofs.reader.Reader.Laws as T′
@@ -169,7 +169,7 @@ module _ {M : Type 1} (𝓤 : URA M) (H : Heap 𝓤) (A : Atoms 𝓤) (W : Given
       by ! (makes 𝓤 H A W (rows (E .parts)) (owns (rows (E .parts)) (intos (E .parts) (d .bytes, (k, (r, tt))))) (v ∷ [], (u′ ∷ [], (u ∷ [], tt))))
 
   module _ (C : Calls 𝓤 H) (Λ : Loops 𝓤 H) (fm : FmC 𝓤 H (W .laws) C)
-      (known-found : Triple 𝓤 (C #found) (Found 𝓤 H A mem run)) (known-onward : Triple 𝓤 (C #onward) (Onward 𝓤 H A mem run)) where
+      (known-found : Triple 𝓤 (C #found) (Found 𝓤 H A mem run)) (known-onward : Triple 𝓤 (C #onward) (OnwardContract 𝓤 H A mem run)) where
     walk : Holds (hasTy (T′.mir (named 0)) mach) × WT mach
         → ent 𝓤 Start (WpFn 𝓤 H C Λ code.function (mach ∷ w ∷ vint w64 m ∷ vint w64 n ∷ []) (Walk .post here))
     walk wt =
@@ -187,8 +187,8 @@ module _ {M : Type 1} (𝓤 : URA M) (H : Heap 𝓤) (A : Atoms 𝓤) (W : Given
         -- [what was found; the token; what the reader owns; room for the place moved on; …; room for what was found; …; the locals; room for _0; …]
         peeks ! S.the-row (Is S.the-row) (shows 𝓤 H A S.the-row) r (u ∷ []) (λ is.
         lands-in ! (init ! 5 refl (EL.lawful S.the-type S′.the-laws 𝓤 H A W tt .typed r _ is .0)) $
-        use0 W (raw (Onward 𝓤 H A mem run .pre (to-onward 𝓤 H A W mem run (d .at) m n))) (goes-onward 𝓤 H A W mem run (d .at) m n (wt .1 .1 .0 .fits) room ok) $
-        calls-at ! fm (Onward 𝓤 H A mem run) known-onward (to-onward 𝓤 H A W mem run (d .at) m n)
+        use0 W (raw (OnwardContract 𝓤 H A mem run .pre (to-onward 𝓤 H A W mem run (d .at) m n))) (goes-onward 𝓤 H A W mem run (d .at) m n (wt .1 .1 .0 .fits) room ok) $
+        calls-at ! fm (OnwardContract 𝓤 H A mem run) known-onward (to-onward 𝓤 H A W mem run (d .at) m n)
         (arg ! 8 refl (arg ! 14 refl (arg ! 12 refl (no-more !)))) (λ u′.
         told W (λ (k : ℕ). ‵ ftrue ⊛ ‵ (usize .own k (u′ ∷ []))) ! (onward-said 𝓤 H A W mem run (d .at) m n) (id⊢ 𝓤 _) tt (λ k e′. split ! $ drop ! $
         -- [the place moved on; what was found; the token; what the reader owns; the locals; room for _0; …]
@@ -202,7 +202,7 @@ module _ {M : Type 1} (𝓤 : URA M) (H : Heap 𝓤) (A : Atoms 𝓤) (W : Given
         by ! (exits r u e k u′ e′))))))))))))))))
 
 next-meets : {M : Type 1} (𝓤 : URA M) (H : Heap 𝓤) (A : Atoms 𝓤) (W : Given 𝓤 H A) (mem : Memory → SProp 𝓤) (run : Routine → Fun 𝓤) (𝓣 : Tables 𝓤 H)
-    → Triple 𝓤 (𝓣 .C #found) (Found 𝓤 H A mem run) → Triple 𝓤 (𝓣 .C #onward) (Onward 𝓤 H A mem run)
+    → Triple 𝓤 (𝓣 .C #found) (Found 𝓤 H A mem run) → Triple 𝓤 (𝓣 .C #onward) (OnwardContract 𝓤 H A mem run)
     → Meets 𝓤 H A next.signature (WpFn 𝓤 H (𝓣 .C) (𝓣 .Λ) code.function) (next.spec 𝓤 H A mem run)
 next-meets 𝓤 H A W mem run 𝓣 known-found known-onward =
     let c = next.clauses 𝓤 H A mem run in
@@ -225,4 +225,4 @@ next-spec 𝓤 H 𝓜 𝓖 𝓡 =
     (tables 𝓤 H 𝓜 𝓡 code.env .C) (tables 𝓤 H 𝓜 𝓡 code.env .Λ) #next code.function (code.unfolded 𝓤 H 𝓜 𝓡)
     (next-meets 𝓤 H (𝓖 .A) (givenOf 𝓤 H 𝓜 𝓖) (𝓜 .mem) (𝓡 .run) (tablesOf 𝓤 H 𝓜 (tables 𝓤 H 𝓜 𝓡 code.env))
     (cited 𝓤 H (Found 𝓤 H (𝓖 .A) (𝓜 .mem) (𝓡 .run)) 𝓜 𝓡 code.env #found found-def.routine code.calls-image·reader·found (found-thm.met 𝓤 H 𝓜 𝓖 𝓡))
-    (cited 𝓤 H (Onward 𝓤 H (𝓖 .A) (𝓜 .mem) (𝓡 .run)) 𝓜 𝓡 code.env #onward onward-def.routine code.calls-image·reader·onward (onward-thm.met 𝓤 H 𝓜 𝓖 𝓡)))
+    (cited 𝓤 H (OnwardContract 𝓤 H (𝓖 .A) (𝓜 .mem) (𝓡 .run)) 𝓜 𝓡 code.env #onward onward-def.routine code.calls-image·reader·onward (onward-thm.met 𝓤 H 𝓜 𝓖 𝓡)))
