@@ -5,3 +5,4 @@ pub mod Reader
 pub mod Rules
 pub mod Checks
 pub mod Valid
+pub mod inside

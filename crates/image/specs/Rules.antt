@@ -1,7 +1,6 @@
 -- Rules 3 to 9 of docs/RULES.md, each as the test of what the rule says. A test of a table speaks of one record.
-use mathlib.Core.Path.{_≡_}
-use Prim.Native.Nat.{ℕ, zero, suc, _+_, _-_, _<_}
-use mathlib.Core.Bool.{Bool, false, _||_, _&&_, not, cond}
+use Prim.Native.Nat.{ℕ, zero, suc, _+_, _-_}
+use mathlib.Core.Bool.{Bool, _||_, _&&_, not, cond}
 use mathlib.Core.List.{List}
 use lib.Dec.{ltb, leb, eqb}
 use Rattle.image.specs.Header.{offsetOf, mostPhases, mostSynchronizers, mostArcs, longestCycle, longestDelay}
@@ -89,16 +88,6 @@ breaksOf bytes image Phases = badPhase bytes image
 breaksOf bytes image Synchronizers = badSynchronizer bytes image
 breaksOf bytes image Arcs = badArc bytes image
 breaksOf bytes image Order = badOrder bytes image
-
--- how many records a rule is about, and that none of them breaks it
-abbrev pub countOf : Image → Rule → ℕ
-countOf image Phases = image .phases
-countOf image Synchronizers = image .synchronizers
-countOf image Arcs = image .arcs
-countOf image Order = image .arcs
-
-abbrev pub NoneBreaks : List ℕ → Image → Rule → Type 0
-NoneBreaks bytes image rule = (i : ℕ) → i < countOf image rule → breaksOf bytes image rule i ≡ false
 
 -- the lowest number below n that fails a test, or n where none does
 unfoldable pub lowestOf : (ℕ → Bool) → ℕ → ℕ
