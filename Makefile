@@ -14,9 +14,9 @@ build/libneelukudam.a: crates.txt $(shell find crates -name '*.rt' -o -name '*.a
 	@mkdir -p build
 	cp target/staticlib/libinterface.a $@
 
-# only the four calls are seen from outside
+# only the five calls are seen from outside
 build/libneelukudam.so.$(VERSION): build/libneelukudam.a
-	printf '{ global: neelukudam_check; neelukudam_timing; neelukudam_path; neelukudam_report; local: *; };\n' >build/exports
+	printf '{ global: neelukudam_check; neelukudam_timing; neelukudam_path; neelukudam_report; neelukudam_image_from_text; local: *; };\n' >build/exports
 	$(CC) -shared -o $@ -Wl,-soname,libneelukudam.so.$(VERSION) -Wl,--version-script=build/exports -Wl,-z,defs \
 	    -Wl,--whole-archive build/libneelukudam.a -Wl,--no-whole-archive
 	ln -sf libneelukudam.so.$(VERSION) build/libneelukudam.so

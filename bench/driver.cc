@@ -1,5 +1,5 @@
-// Times the contenders on the rows. No words: all of them, interleaved; prints a table. `rows`: their names. `ROW CONTENDER TIMES`: calls one that
-// often, for callgrind.
+// Times the contenders on the rows. No words: all of them, interleaved; prints a table of circuits and one of texts. `rows`, `texts`: their names.
+// `ROW CONTENDER TIMES`: calls one that often, for callgrind.
 #include <algorithm>
 #include <chrono>
 #include <cstdio>
@@ -15,6 +15,10 @@
 uint32_t run_ours(const uint8_t *image, size_t n, int64_t *out, size_t out_len, uint32_t *arcs, size_t arcs_len) {
     TimingAnswer a = ours(image, n, out, out_len, arcs, arcs_len);
     return a.refusal ? REFUSED : a.loop_arcs ? GROWING : TIMED;
+}
+
+uint32_t run_ours_text(const uint8_t *text, size_t n, uint8_t *image, size_t image_len) {
+    return neelukudam_image_from_text(text, n, image, image_len).image_bytes;
 }
 
 namespace {
@@ -112,10 +116,68 @@ void table(const std::vector<Row> &all, unsigned turns) {
     }
 }
 
+// ---- From a text to its image. ----
+
+using RunText = uint32_t (*)(const uint8_t *, size_t, uint8_t *, size_t);
+
+struct TextContender {
+    const char *name;
+    RunText run;
+};
+
+const TextContender TEXT_CONTENDERS[] = {{"ours", run_ours_text}, {"rust", run_rust_text}};
+
+constexpr size_t IMAGE_BYTES = 45216;
+
+uint32_t call(const TextContender &c, const TextRow &row, uint8_t *image) {
+    return c.run(reinterpret_cast<const uint8_t *>(row.text.data()), row.text.size(), image, IMAGE_BYTES);
+}
+
+// Both give an image, the same, and leave the bytes behind it. Returns its length.
+uint32_t compare(const TextRow &row) {
+    std::vector<uint8_t> first(IMAGE_BYTES, 0xa5), other(IMAGE_BYTES, 0xa5);
+    uint32_t bytes = call(TEXT_CONTENDERS[0], row, first.data());
+    if (bytes == 0 || call(TEXT_CONTENDERS[1], row, other.data()) != bytes || first != other) {
+        std::fprintf(stderr, "%s: no image, or another\n", row.name.c_str());
+        std::exit(1);
+    }
+    return bytes;
+}
+
+double microseconds(const TextContender &c, const TextRow &row, unsigned times) {
+    static uint8_t image[IMAGE_BYTES];
+    auto start = std::chrono::steady_clock::now();
+    for (unsigned t = 0; t < times; t++) call(c, row, image);
+    std::chrono::duration<double, std::micro> took = std::chrono::steady_clock::now() - start;
+    return took.count() / times;
+}
+
+void table(const std::vector<TextRow> &all, unsigned turns) {
+    std::puts("\n| text | its bytes | bytes of the image | ours, microseconds | ours / Rust |");
+    std::puts("|---|--:|--:|--:|--:|");
+    for (const TextRow &row : all) {
+        double best[2];
+        unsigned times[2];
+        for (int c = 0; c < 2; c++) {
+            best[c] = microseconds(TEXT_CONTENDERS[c], row, 1);
+            times[c] = std::max(1u, static_cast<unsigned>(100 / best[c]));
+        }
+        for (unsigned t = 0; t < turns; t++)
+            for (int c = 0; c < 2; c++) best[c] = std::min(best[c], microseconds(TEXT_CONTENDERS[c], row, times[c]));
+        std::printf("| %s | %zu | %u | %.2f | %.2f |\n", row.name.c_str(), row.text.size(), compare(row), best[0], best[0] / best[1]);
+        std::fflush(stdout);
+    }
+}
+
 }  // namespace
 
 int main(int count, char **words) {
     std::vector<Row> all = rows();
+    std::vector<TextRow> texts = text_rows();
+    if (count == 2 && !std::strcmp(words[1], "texts")) {
+        for (const TextRow &row : texts) std::printf("%s|%zu|%u\n", row.name.c_str(), row.text.size(), compare(row));
+        return 0;
+    }
     if (count == 2 && !std::strcmp(words[1], "rows")) {
         for (const Row &row : all) std::printf("%s|%u|%u\n", row.name.c_str(), row.synchronizers, row.arcs);
         return 0;
@@ -127,8 +189,16 @@ int main(int count, char **words) {
             for (const Contender &c : CONTENDERS)
                 if (row.name == words[1] && !std::strcmp(c.name, words[2]))
                     for (int t = std::atoi(words[3]); t > 0; t--) call(c, row, out, arcs);
+        static uint8_t image[IMAGE_BYTES];
+        for (const TextRow &row : texts)
+            for (const TextContender &c : TEXT_CONTENDERS)
+                if (row.name == words[1] && !std::strcmp(c.name, words[2]))
+                    for (int t = std::atoi(words[3]); t > 0; t--) call(c, row, image);
         return 0;
     }
     for (const Row &row : all) compare(row);
-    table(all, count == 2 ? static_cast<unsigned>(std::atoi(words[1])) : 400);
+    for (const TextRow &row : texts) compare(row);
+    unsigned turns = count == 2 ? static_cast<unsigned>(std::atoi(words[1])) : 400;
+    table(all, turns);
+    table(texts, turns);
 }

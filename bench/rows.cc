@@ -2,6 +2,7 @@
 
 #include <algorithm>
 #include <cstdlib>
+#include <initializer_list>
 #include <set>
 #include <utility>
 
@@ -197,4 +198,56 @@ std::vector<Row> rows() {
     add("growing ring, steep", ring(512, true), true);
     add("typical, growing", typical(5, 4, 512, 2040, 8), true);
     return out;
+}
+
+namespace {
+
+std::string text_of(Circuit c) {
+    std::sort(c.arcs.begin(), c.arcs.end(), [](const Arc &a, const Arc &b) { return a.to != b.to ? a.to < b.to : a.from < b.from; });
+    auto line = [](const char *word, std::initializer_list<uint32_t> numbers) {
+        std::string out = word;
+        for (uint32_t number : numbers) out += " " + std::to_string(number);
+        return out;
+    };
+    auto window = [](uint32_t least, uint32_t greatest) { return " " + std::to_string(least) + ":" + std::to_string(greatest) + "\n"; };
+    std::string text = line("tc", {c.cycle}) + "\n";
+    for (const Phase &p : c.phases) text += line("phase", {p.closing, p.active}) + "\n";
+    for (const Synchronizer &s : c.synchronizers) text += line(s.kind ? "flop" : "latch", {s.phase, s.setup, s.hold}) + window(s.least, s.greatest);
+    for (const Arc &a : c.arcs) text += line("arc", {a.from, a.to}) + window(a.least, a.greatest);
+    return text;
+}
+
+// 512 flip-flops and as many arcs as a text has room for, by the shortest lines there are: those first whose ends have the fewest digits.
+Circuit largest_written() {
+    Circuit c;
+    c.phases = {{0, 0}, {1, 0}};
+    c.synchronizers.assign(512, {0, 1, 0, 0, 0, 0});
+    auto digits = [](uint32_t number) { return number < 10 ? 1 : number < 100 ? 2 : 3; };
+    for (int both = 2; both <= 4; both++)
+        for (uint32_t to = 0; to < 512; to++)
+            for (uint32_t from = 0; from < 512 && c.arcs.size() < 1933; from++)
+                if (digits(from) + digits(to) == both) c.arcs.push_back({from, to, 0, 0});
+    return c;
+}
+
+// One flip-flop, whose delay is `count` times the atom, joined by the sign.
+std::string one_window(const std::string &atom, char sign, uint32_t count) {
+    std::string text = "tc 9\nphase 9 1\nflop 0 0 0 " + atom;
+    for (uint32_t i = 1; i < count; i++) text += sign + atom;
+    return text + "\n";
+}
+
+}  // namespace
+
+std::vector<TextRow> text_rows() {
+    std::string open(16, '('), close(16, ')');
+    return {
+        {"text of two latches", text_of(two())},
+        {"text of typical 64", text_of(typical(1, 2, 64, 256, 0))},
+        {"text of typical 256", text_of(typical(8, 4, 256, 1020, 0))},
+        {"text of the largest image", text_of(largest_written())},
+        {"deepest brackets", one_window(open + "0:1" + close, '+', 909)},
+        {"longest sum", one_window("0:1", '+', 8185)},
+        {"longest branches", one_window("0:1000000000", '|', 2518)},
+    };
 }

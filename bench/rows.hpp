@@ -1,4 +1,4 @@
-// The circuits that are timed, as images. Everything is made from fixed seeds, so that each run times the same bytes.
+// The circuits that are timed, as images, and the texts that images are made from. Everything is made from fixed seeds, so that each run times the same bytes.
 #pragma once
 #include <cstdint>
 #include <string>
@@ -31,3 +31,9 @@ struct Row {
 };
 
 std::vector<Row> rows();
+
+struct TextRow {
+    std::string name, text;
+};
+
+std::vector<TextRow> text_rows();

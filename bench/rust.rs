@@ -1,4 +1,5 @@
-// The independent Rust implementation behind a C function.
+// The independent Rust implementations behind C functions.
+mod reader;
 use independent::Timing;
 
 /// # Safety
@@ -13,4 +14,11 @@ pub unsafe extern "C" fn run_rust(image: *const u8, n: usize, results: *mut i64,
         Ok(Timing::Growing { .. }) => 1,
         Err(_) => 2,
     }
+}
+
+/// # Safety
+/// The same.
+#[no_mangle]
+pub unsafe extern "C" fn run_rust_text(text: *const u8, n: usize, image: *mut u8, image_len: usize) -> u32 {
+    reader::image_from_text(std::slice::from_raw_parts(text, n), std::slice::from_raw_parts_mut(image, image_len)).unwrap_or(0)
 }

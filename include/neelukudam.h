@@ -1,7 +1,7 @@
 /* Neelukudam: times latch circuits. The interface for C and C++, on x86-64 Linux.
  *
- * Four calls. Each takes a circuit image and answers every input: no byte of an image and no length of a buffer is forbidden, and a bad
- * one is refused by a number.
+ * Five calls. One makes a circuit image from a text that a person wrote; the other four take an image. Each answers every input: no byte of
+ * an image or a text and no length of a buffer is forbidden, and a bad one is refused by a number.
  *
  * The image is of little-endian unsigned words of 32 bits. Header: version (1), cycle Tc, numbers k of phases, l of synchronizers and m of arcs,
  * byte offsets of the three tables, which follow without gaps (32, 32 + 8k, 32 + 8k + 24l; the image ends 16m bytes after the last).
@@ -10,19 +10,29 @@
  *   arc:          from, to, least delay, greatest delay; ordered by "to", then by "from"
  * All are numbered from 0, and all times are whole ticks.
  *
+ * The text has one line for each record, in this order, every line ended by a line feed, its fields parted by one space:
+ *   tc N                  the cycle, once
+ *   phase E T             closing time, active length
+ *   latch P S H W         a latch: phase, setup, hold, its delay
+ *   flop P S H W          a flip-flop; latches and flip-flops are numbered together
+ *   arc FROM TO W         an arc and its delay
+ * N to TO are numbers of 1 to 10 digits. W is a delay window without spaces: LO:HI, the least and the greatest. A+B is one delay after the other
+ * and adds both ends; A|B is one or the other, and takes the lesser low and the greater high; + binds closer; round brackets group, at most
+ * 16 deep. docs/RULES.md has it exactly.
+ *
  * Memory. A buffer is a pointer and the number of its elements (not bytes). It is the caller's before, during and after a call; nothing is kept,
- * allocated or freed. A call reads within the image's length and writes within a buffer's length, and only what is said below. A
+ * allocated or freed. A call reads within the length of the image or text and writes within a buffer's length, and only what is said below. A
  * refusal changes no byte of any buffer. What the caller must see to, as in every C call, since nothing can test it:
  *   - each pointer leads to that many elements, readable, and writable where it is not const;
  *   - each is aligned for its type: uint32_t at 4 bytes, int64_t at 8; bytes lie anywhere;
- *   - the image and the buffers of one call do not overlap, and nobody else writes them while the call runs.
+ *   - the image or text and the buffers of one call do not overlap, and nobody else writes them while the call runs.
  * NULL with length 0: the calls touch no element of an empty buffer, and the tests pass NULL for each. But the toolchain whose compiler
  * made this library states no rule for it; where that matters, pass the address of any object with length 0.
  *
- * Threads. There is no state: any number of calls may run at the same time, on the same image too. No call locks, blocks, makes a system
+ * Threads. There is no state: any number of calls may run at the same time, on the same image or text too. No call locks, blocks, makes a system
  * call or returns other than by its return. All of them end; the largest circuits take longest.
  *
- * What is proved. The four functions, as the source of crates/interface states them: that they never leave their memory, end, and give
+ * What is proved. The five functions, as the source of crates/interface states them: that they never leave their memory, end, and give
  * what docs/PROMISES.md says. This file is not part of a proof; tests/link holds it to the library.
  */
 #ifndef NEELUKUDAM_H
@@ -41,6 +51,9 @@ extern "C" {
 #define NEELUKUDAM_MOST_ARCS 2048
 #define NEELUKUDAM_MOST_IMAGE_BYTES 45216
 #define NEELUKUDAM_MOST_REPORT_BYTES 48146
+
+/* The longest text that neelukudam_image_from_text takes. */
+#define NEELUKUDAM_MOST_TEXT_BYTES 32768
 
 /* Numbers per synchronizer in the result buffer of neelukudam_timing, and the order in which they stand there. */
 #define NEELUKUDAM_RESULTS 6
@@ -62,9 +75,11 @@ enum neelukudam_result {
 #define NEELUKUDAM_STACK_TIMING 49152
 #define NEELUKUDAM_STACK_PATH 114688
 #define NEELUKUDAM_STACK_REPORT 131072
+#define NEELUKUDAM_STACK_IMAGE_FROM_TEXT 57344
 
 /* Numbers of refusal. They are tested in this order, and the first that applies is given. With 6 to 9 comes the lowest record at fault, counted
- * from 0 in its table; with the others the record is 0. */
+ * from 0 in its table; with 15 the lowest line at fault, counted from 0; with the others the record is 0. A text is asked 15, then 3, 4 and 6 to 9
+ * of the image that it writes, then 16. */
 enum neelukudam_refusal {
     NEELUKUDAM_REFUSED_NOT = 0,
     NEELUKUDAM_REFUSED_HEADER = 1,       /* fewer than 32 bytes */
@@ -82,7 +97,11 @@ enum neelukudam_refusal {
     NEELUKUDAM_REFUSED_FEW_ARCS = 11,    /* timing, path: fewer places in the arc buffer than synchronizers */
     NEELUKUDAM_REFUSED_NO_SUCH = 12,     /* path: there is no synchronizer of that number */
     NEELUKUDAM_REFUSED_NO_ARC_IN = 13,   /* path: no arc leads into that synchronizer */
-    NEELUKUDAM_REFUSED_GROWING = 14      /* path: the circuit has a growing loop */
+    NEELUKUDAM_REFUSED_GROWING = 14,     /* path: the circuit has a growing loop */
+    NEELUKUDAM_REFUSED_LINE = 15,        /* text: a line is off the grammar, out of its place or without its line feed; has a number above
+                                            1,000,000,000, LO above HI, a window end above 1,000,000,000 or brackets too deep; or the text is
+                                            empty or too long, and then the record is 0 */
+    NEELUKUDAM_REFUSED_FEW_BYTES = 16    /* text: fewer bytes in the image buffer than the image has */
 };
 
 /* Is the image good? refusal 0: yes, and the four numbers are its header's. Otherwise the number of refusal (1 to 9) with its record, and the
@@ -134,6 +153,18 @@ neelukudam_path_answer neelukudam_path(const uint8_t *image, size_t image_bytes,
  * the rest of text stays; if not, nothing is written. NEELUKUDAM_MOST_REPORT_BYTES is enough for every image, and a first call with length 0 asks how
  * many are needed. */
 size_t neelukudam_report(const uint8_t *image, size_t image_bytes, uint8_t *text, size_t text_bytes);
+
+/* Makes the image of a written circuit. refusal 0: the image stands at the front of the buffer, image_bytes is its length, and the rest of the
+ * buffer stays. Otherwise refused (15, then 3, 4, 6 to 9, then 16), with the record, and image_bytes is 0. With 15 the record is a line, counted
+ * from 0: an editor counts from 1. NEELUKUDAM_MOST_IMAGE_BYTES are enough for every text. An image that was made is good: the other calls refuse it
+ * by none of 1 to 9. */
+typedef struct neelukudam_text_answer {
+    uint32_t refusal;
+    uint32_t record;
+    uint32_t image_bytes;
+} neelukudam_text_answer;
+
+neelukudam_text_answer neelukudam_image_from_text(const uint8_t *text, size_t text_bytes, uint8_t *image, size_t image_length);
 
 #ifdef __cplusplus
 }

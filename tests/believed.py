@@ -10,7 +10,7 @@ import sys
 from stored import ROOT
 
 # They show the definitions at work: no promise names them.
-SHOWN = {"circuit/Changes"} | {"known/" + name for name in ("Answers", "Circuits", "Holds", "Layout")}
+SHOWN = {"circuit/Changes"} | {"known/" + name for name in ("Answers", "Circuits", "Holds", "Layout", "Written")}
 
 
 def files():

@@ -1,19 +1,23 @@
 #!/usr/bin/env python3
-"""The circuits with known numbers as image files, and the report of each.
+"""The circuits with known numbers as image files and as texts, and the report of each.
 
-`python3 tests/circuits.py` writes circuits/p1.image to circuits/p10.image and circuits/too_long.image, each with its report beside it, and
-the program's stored run, crates/neelukudam/stdin and stdout, which is P1. tests/link/run runs the program on all of them.
+`python3 tests/circuits.py` writes circuits/p1.image to circuits/p10.image and circuits/too_long.image, each with its report beside it;
+circuits/p1.text to circuits/p10.text, and circuits/bad_line.text with its refusal; and the stored run of each program, which is P1: stdin and
+stdout in crates/neelukudam and crates/neelukudam_text. tests/link/run runs the programs on all of them.
 `python3 tests/circuits.py --check` only compares, and ends with status 1 where something differs.
 `python3 tests/circuits.py FILE...` prints the report of each image file.
 
 The reports come from the engine below. It was written from the rules (docs/RULES.md): departures are raised in place until nothing
 changes. The texts that were given with the rules are held against it by hand.
+
+The texts of the circuits stand below as a person writes them. None is stored before the reading below gives the stored image for it.
 """
 import pathlib
+import re
 import struct
 import sys
 
-from image_cases import CASES, GOOD, judge, known_circuits, largest
+from image_cases import CASES, GOOD, LIMIT, build, judge, known_circuits, largest
 from stored import ROOT, store
 
 MARK = 2**63 - 1
@@ -159,22 +163,138 @@ PRINTED = {
 }
 
 
+# ---- Written circuits: docs/RULES.md, "A written circuit". ----
+
+
+class Window:
+    """`+` adds both ends, `|` takes the lesser low and the greater high. That `+` binds closer, and brackets closest, Python says too."""
+
+    def __init__(self, low, high):
+        assert low <= high
+        self.low, self.high = low, high
+
+    def __add__(self, other):
+        return Window(self.low + other.low, self.high + other.high)
+
+    def __or__(self, other):
+        return Window(min(self.low, other.low), max(self.high, other.high))
+
+
+def number(field):
+    assert re.fullmatch("[0-9]{1,10}", field) and int(field) <= LIMIT
+    return int(field)
+
+
+def window(field):
+    """Both ends. Python reads the expression, each atom put into words of Python before."""
+    assert re.fullmatch("[0-9:+|()]+", field)
+    depths = [field[:i].count("(") - field[:i].count(")") for i in range(len(field))]
+    assert max(depths) <= 16
+    atoms = re.sub("([0-9]+):([0-9]+)", r"Window(number('\1'), number('\2'))", field)
+    meaning = eval(atoms, {"Window": Window, "number": number})
+    assert isinstance(meaning, Window) and meaning.high <= LIMIT
+    return [meaning.low, meaning.high]
+
+
+def record(line):
+    """The kind of a line, by its place in the order, and its numbers."""
+    assert line.endswith("\n")
+    word, *fields = line[:-1].split(" ")
+    plain = {"tc": 1, "phase": 2, "latch": 3, "flop": 3, "arc": 2}[word]
+    place = ["tc", "phase", "latch", "arc"].index("latch" if word == "flop" else word)
+    assert len(fields) == plain + (place > 1)
+    numbers = [number(field) for field in fields[:plain]] + [x for field in fields[plain:] for x in window(field)]
+    if place == 2:
+        numbers.insert(1, int(word == "flop"))
+    return place, numbers
+
+
+def image_of(text):
+    """The image that a text writes, or the refusal and its line or record."""
+    if len(text) > 32_768 or not text:
+        return (15, 0)
+    tables = [[], [], [], []]
+    for i, line in enumerate(re.findall("[^\n]*\n|[^\n]+", text)):
+        try:
+            place, numbers = record(line)
+            assert (place == 0) == (i == 0) and not any(tables[place + 1:])
+        except (AssertionError, AttributeError, KeyError, SyntaxError, TypeError):
+            return (15, i)
+        tables[place].append(numbers)
+    image = build(tables[0][0][0], *tables[1:])
+    answer = judge(image)
+    return image if answer == GOOD else answer
+
+
+def ring_text(delays, first, second):
+    latches = "latch 0 10 5 %s\nlatch 1 10 5 %s\n" % (delays, delays)
+    return "tc 100\nphase 50 40\nphase 100 40\n" + latches + "arc 1 0 %s\narc 0 1 %s\n" % (first, second)
+
+
+def flip_flops_text(window):
+    return "tc 100\nphase 100 50\nflop 0 10 10 8:8\nflop 0 10 10 8:8\narc 0 1 %s\n" % window
+
+
+TEXTS = {
+    "p1": ring_text("5:10", "10:20", "20:60"),
+    "p2": ring_text("5:10", "10:20", "20:61"),
+    "p3": ring_text("5:10", "10:10", "20:70"),
+    # one delay after the other
+    "p4": ring_text("5:10", "0:0", "5:20+15:60"),
+    "p5": ring_text("10:10", "20:20", "60:60"),
+    # p1 once more, with every sign that a window can have
+    "p6": ring_text("5:10", "(10:15+0:5)", "(20:25|15:40)+5:20"),
+    "p7": flip_flops_text("2:80"),
+    "p8": flip_flops_text("1:80"),
+    "p9": "tc 100\nphase 100 40\n" + 3 * "latch 0 0 0 0:0\n" + "arc 0 1 100:130\narc 1 2 100:120|110:130\n",
+    "p10": "tc 100\nphase 100 40\n",
+}
+# P1 with a dash where a colon should stand, on line 3.
+BAD_LINE = (TEXTS["p1"].replace("latch 0 10 5 5:10", "latch 0 10 5 5-10"), (15, 3))
+
+
+def check_reading():
+    """The reading on what is good and on each fault that a text can have, all by hand: it must not take everything for good."""
+    ends = {"7:9": [7, 9], "1:2+(3:4|5:6)": [4, 8], "1:2+3:4|5:6": [4, 6], "0:999999999+0:1": [0, LIMIT], 16 * "(" + "1:2" + 16 * ")": [1, 2]}
+    for field, meaning in ends.items():
+        assert image_of("tc 9\nphase 9 9\nflop 0 0 0 %s\n" % field) == build(9, [[9, 9]], [[0, 1, 0, 0] + meaning], [])
+    bad = ["2:1", "1", "1:2:3", "+1:2", "1:2|", "()", "(1:2", "(1:2)(3:4)", "0:999999999+0:2", "0:00000000001", "1: 2", 17 * "(" + "1:2" + 17 * ")"]
+    for field in bad:
+        assert image_of("tc 9\nphase 9 9\nflop 0 0 0 %s\nphase 9 9\n" % field) == (15, 2), field
+    lines = {"": 0, "phase 9 9\n": 0, "tc 9\ntc 9\n": 1, "tc 9\n\n": 1, "tc 9\narc 0 0 0:0\nphase 9 9\n": 2, "tc 9\nphase 9 90": 1, "tc  9\n": 0}
+    for text, line in lines.items():
+        assert image_of(text) == (15, line), text
+    assert image_of("tc 9\n") == (4, 0) and image_of("tc 0\n") == (3, 0) and image_of("tc 9\nphase 9 9\nphase 8 9\n") == (6, 1)
+
+
+def texts(images):
+    """The files of the texts."""
+    check_reading()
+    assert TEXTS.keys() == images.keys() and image_of(BAD_LINE[0]) == BAD_LINE[1]
+    wanted = {ROOT / "circuits" / "bad_line.text": BAD_LINE[0], ROOT / "circuits" / "bad_line.report": "refused %d %d\n" % BAD_LINE[1]}
+    for name, text in TEXTS.items():
+        assert image_of(text) == images[name], name
+        wanted[ROOT / "circuits" / (name + ".text")] = text
+    return {path: text.encode("ascii") for path, text in wanted.items()}
+
+
 def main():
     if sys.argv[1:] and sys.argv[1:] != ["--check"]:
         for name in sys.argv[1:]:
             sys.stdout.write(report(pathlib.Path(name).read_bytes()))
         return
-    wanted, images = {}, circuits()
+    images = circuits()
+    wanted = texts(images)
     images["too_long"] = too_long()
     for name, image in images.items():
         text = report(image)
         assert PRINTED.get(name, text) == text, (name, text)
         wanted[ROOT / "circuits" / (name + ".image")] = image
         wanted[ROOT / "circuits" / (name + ".report")] = text.encode("ascii")
-    program = ROOT / "crates" / "neelukudam"
-    wanted[program / "stdin"] = wanted[ROOT / "circuits" / "p1.image"]
-    wanted[program / "stdout"] = wanted[ROOT / "circuits" / "p1.report"]
-    store(wanted, "%d circuits" % len(images))
+    for program, given, printed in (("neelukudam", "p1.image", "p1.report"), ("neelukudam_text", "p1.text", "p1.image")):
+        wanted[ROOT / "crates" / program / "stdin"] = wanted[ROOT / "circuits" / given]
+        wanted[ROOT / "crates" / program / "stdout"] = wanted[ROOT / "circuits" / printed]
+    store(wanted, "%d circuits, %d of them also as texts" % (len(images), len(TEXTS)))
 
 
 if __name__ == "__main__":

@@ -1,4 +1,4 @@
-/* The circuits P1 to P10 through the four calls, and every number of refusal. Run with the folder of the circuits as its word.
+/* The circuits P1 to P10 through the five calls, and every number of refusal. Run with the folder of the circuits as its word.
  *
  * What timing must give is read off the stored reports, which tests/circuits.py works out by itself; what circuits/README.md says of a circuit in
  * words stands here again. Round each buffer lie guard values, and what a call has no business to write is compared afterwards. The file is C99
@@ -31,6 +31,8 @@ static uint8_t text_around[MARGIN + NEELUKUDAM_MOST_REPORT_BYTES + MARGIN], text
 static int64_t *const results = results_around + MARGIN;
 static uint32_t *const arcs = arcs_around + MARGIN;
 static uint8_t *const text = text_around + MARGIN;
+static uint8_t made_around[MARGIN + NEELUKUDAM_MOST_IMAGE_BYTES + MARGIN], made_before[MARGIN + NEELUKUDAM_MOST_IMAGE_BYTES + MARGIN];
+static uint8_t *const made = made_around + MARGIN; /* where images are made from texts */
 
 static void fill(void) {
     size_t i;
@@ -42,7 +44,10 @@ static void fill(void) {
         text_around[i] = (uint8_t)(i * 7 + 13);
     memcpy(results_before, results_around, sizeof results_around);
     memcpy(arcs_before, arcs_around, sizeof arcs_around);
+    for (i = 0; i < sizeof made_around; i++)
+        made_around[i] = (uint8_t)(i * 5 + 3);
     memcpy(text_before, text_around, sizeof text_around);
+    memcpy(made_before, made_around, sizeof made_around);
 }
 
 /* Nothing but the first n elements has changed, the margins included. */
@@ -57,6 +62,11 @@ static int arcs_kept(size_t n) {
 static int text_kept(size_t n) {
     return memcmp(text_around, text_before, MARGIN) == 0 &&
            memcmp(text + n, text_before + MARGIN + n, NEELUKUDAM_MOST_REPORT_BYTES - n + MARGIN) == 0;
+}
+
+static int made_kept(size_t n) {
+    return memcmp(made_around, made_before, MARGIN) == 0 &&
+           memcmp(made + n, made_before + MARGIN + n, NEELUKUDAM_MOST_IMAGE_BYTES - n + MARGIN) == 0;
 }
 
 /* A file; a string ends it, so that it can be read as one. */
@@ -284,6 +294,80 @@ static void check_largest(void) {
     EXPECT(n > 12 * l && n <= NEELUKUDAM_MOST_REPORT_BYTES && memcmp(text, "timed 512 ", 10) == 0 && text[n - 1] == '\n' && text_kept(n));
 }
 
+/* The text of a circuit that is open gives its image. */
+static uint8_t written[NEELUKUDAM_MOST_TEXT_BYTES + 2];
+
+static void check_text(const char *name) {
+    size_t n = load(name, "text", written, sizeof written);
+    neelukudam_text_answer t;
+    /* a buffer of the image's own length, and a longer one */
+    fill();
+    t = neelukudam_image_from_text(written, n, made, image_bytes);
+    EXPECT(t.refusal == 0 && t.record == 0 && t.image_bytes == image_bytes);
+    EXPECT(memcmp(made, image, image_bytes) == 0 && made_kept(image_bytes));
+    fill();
+    t = neelukudam_image_from_text(written, n, made, NEELUKUDAM_MOST_IMAGE_BYTES);
+    EXPECT(t.refusal == 0 && t.record == 0 && t.image_bytes == image_bytes);
+    EXPECT(memcmp(made, image, image_bytes) == 0 && made_kept(image_bytes));
+    /* one byte too short, and none */
+    fill();
+    t = neelukudam_image_from_text(written, n, made, image_bytes - 1);
+    EXPECT(t.refusal == NEELUKUDAM_REFUSED_FEW_BYTES && t.record == 0 && t.image_bytes == 0);
+    t = neelukudam_image_from_text(written, n, NULL, 0);
+    EXPECT(t.refusal == NEELUKUDAM_REFUSED_FEW_BYTES && t.record == 0 && t.image_bytes == 0);
+    EXPECT(made_kept(0));
+}
+
+/* A bad text: refused, with room for an image and without, and every byte stays. */
+static void check_bad_text(const char *what, const void *bytes, size_t n, uint32_t refusal, uint32_t record) {
+    neelukudam_text_answer t;
+    where = what;
+    fill();
+    t = neelukudam_image_from_text((const uint8_t *)bytes, n, made, NEELUKUDAM_MOST_IMAGE_BYTES);
+    EXPECT(t.refusal == refusal && t.record == record && t.image_bytes == 0);
+    t = neelukudam_image_from_text((const uint8_t *)bytes, n, NULL, 0);
+    EXPECT(t.refusal == refusal && t.record == record && t.image_bytes == 0);
+    EXPECT(made_kept(0));
+}
+
+static void check_bad_string(const char *string, uint32_t refusal, uint32_t record) {
+    check_bad_text(string, string, strlen(string), refusal, record);
+}
+
+static void check_bad_texts(void) {
+    char line[64];
+    size_t n = load("bad_line", "text", written, sizeof written), bytes;
+    load("bad_line", "report", stored, sizeof stored);
+    snprintf(line, sizeof line, "refused %d %d\n", NEELUKUDAM_REFUSED_LINE, 3);
+    where = "bad_line";
+    EXPECT(strcmp(line, (const char *)stored) == 0);
+    check_bad_text("bad_line", written, n, NEELUKUDAM_REFUSED_LINE, 3);
+
+    check_bad_text("no text", NULL, 0, NEELUKUDAM_REFUSED_LINE, 0);
+    check_bad_string("tc 100\nphase 100 40", NEELUKUDAM_REFUSED_LINE, 1);
+    check_bad_string("tc 100\nphase 100 40\ntc 100\n", NEELUKUDAM_REFUSED_LINE, 2);
+    check_bad_string("tc 0\nphase 100 40\n", NEELUKUDAM_REFUSED_CYCLE, 0);
+    check_bad_string("tc 100\n", NEELUKUDAM_REFUSED_COUNTS, 0);
+    check_bad_string("tc 100\nphase 50 40\nphase 99 40\n", NEELUKUDAM_REFUSED_PHASE, 1);
+    check_bad_string("tc 100\nphase 100 40\nlatch 0 0 0 0:0\nflop 1 0 0 0:0\n", NEELUKUDAM_REFUSED_SYNCHRONIZER, 1);
+    check_bad_string("tc 100\nphase 100 40\nlatch 0 0 0 0:0\narc 0 1 0:0\n", NEELUKUDAM_REFUSED_ARC, 0);
+    check_bad_string("tc 100\nphase 100 40\nlatch 0 0 0 0:0\narc 0 0 0:0\narc 0 0 0:0\n", NEELUKUDAM_REFUSED_ORDER, 1);
+
+    /* the longest text, and one byte more: a zero before the cycle */
+    where = "the longest text";
+    n = (size_t)snprintf((char *)written, sizeof written, "tc 001\nphase 1 0\nflop 0 0 0 0:0");
+    for (; n + 5 <= NEELUKUDAM_MOST_TEXT_BYTES; n += 4)
+        memcpy(written + n, "|0:7", 4);
+    written[n++] = '\n';
+    bytes = 32 + 8 + 24;
+    fill();
+    EXPECT(n == NEELUKUDAM_MOST_TEXT_BYTES);
+    EXPECT(neelukudam_image_from_text(written, n, made, bytes).image_bytes == bytes && made_kept(bytes));
+    EXPECT(made[bytes - 8] == 0 && made[bytes - 4] == 7);
+    memmove(written + 4, written + 3, n - 3);
+    check_bad_text("one byte too long", written, n + 1, NEELUKUDAM_REFUSED_LINE, 0);
+}
+
 int main(int argc, char **argv) {
     static const char *const names[] = {"p1", "p2", "p3", "p4", "p5", "p6", "p7", "p8", "p9", "p10"};
     neelukudam_timing_answer a;
@@ -300,6 +384,7 @@ int main(int argc, char **argv) {
     EXPECT(sizeof(neelukudam_timing_answer) == 32 && offsetof(neelukudam_timing_answer, refusal) == 8);
     EXPECT(offsetof(neelukudam_timing_answer, missed_holds) == 24);
     EXPECT(sizeof(neelukudam_path_answer) == 16 && offsetof(neelukudam_path_answer, arcs) == 12);
+    EXPECT(sizeof(neelukudam_text_answer) == 12 && offsetof(neelukudam_text_answer, image_bytes) == 8);
     EXPECT(NEELUKUDAM_NONE == 9223372036854775807);
     EXPECT(NEELUKUDAM_MOST_IMAGE_BYTES ==
            32 + 8 * NEELUKUDAM_MOST_PHASES + 24 * NEELUKUDAM_MOST_SYNCHRONIZERS + 16 * NEELUKUDAM_MOST_ARCS);
@@ -307,6 +392,7 @@ int main(int argc, char **argv) {
     for (i = 0; i < sizeof names / sizeof *names; i++) {
         open_circuit(names[i]);
         check_good();
+        check_text(names[i]);
     }
 
     /* what circuits/README.md says in words */
@@ -373,6 +459,7 @@ int main(int argc, char **argv) {
     check_damaged("arcs out of order", 116, 0, NEELUKUDAM_REFUSED_ORDER, 1);
 
     check_largest();
+    check_bad_texts();
 
     printf("known: %d passed, %d failed\n", passed, failed);
     return failed != 0;

@@ -15,6 +15,9 @@ static size_t image_bytes;
 static int64_t results[NEELUKUDAM_RESULTS * L];
 static uint32_t arcs[L];
 static uint8_t text[NEELUKUDAM_MOST_REPORT_BYTES];
+static char written[NEELUKUDAM_MOST_TEXT_BYTES + 1];
+static size_t written_bytes;
+static uint8_t made[NEELUKUDAM_MOST_IMAGE_BYTES];
 static uint32_t outcome;
 
 static void word(uint32_t value) {
@@ -37,6 +40,33 @@ static void ring(uint32_t first_arc) {
         word((i + L - 1) % L), word(i), word(0), word(i == 0 ? first_arc : tc);
 }
 
+static void put(const char *line) { written_bytes += (size_t)sprintf(written + written_bytes, "%s", line); }
+
+/* All flip-flops that there may be, and as many arcs as the longest text has room for. The delay of the last arc has brackets as deep as the word says.
+ * Gives the number of arcs. */
+static uint32_t write_text(int depth) {
+    uint32_t i, side = 45;
+    int k;
+    char line[64];
+    written_bytes = 0;
+    put("tc 1\nphase 1 0\n");
+    for (i = 0; i < L; i++)
+        put("flop 0 0 0 0:0\n");
+    for (i = 0; written_bytes + 80 <= NEELUKUDAM_MOST_TEXT_BYTES; i++) {
+        snprintf(line, sizeof line, "arc %u %u 0:0\n", (unsigned)(i % side), (unsigned)(i / side));
+        put(line);
+    }
+    snprintf(line, sizeof line, "arc %u %u ", (unsigned)(i % side), (unsigned)(i / side));
+    put(line);
+    for (k = 0; k < depth; k++)
+        put("(");
+    put("0:1|0:2+0:3");
+    for (k = 0; k < depth; k++)
+        put(")");
+    put("\n");
+    return i + 1;
+}
+
 static void *nothing(void *unused) { return unused; }
 static void *check(void *unused) {
     outcome = neelukudam_check(image, image_bytes).refusal;
@@ -52,6 +82,12 @@ static void *path(void *unused) {
 }
 static void *report(void *unused) {
     outcome = (uint32_t)neelukudam_report(image, image_bytes, text, sizeof text);
+    return unused;
+}
+
+static void *image_from_text(void *unused) {
+    neelukudam_text_answer t = neelukudam_image_from_text((const uint8_t *)written, written_bytes, made, sizeof made);
+    outcome = t.refusal ? t.record : t.image_bytes;
     return unused;
 }
 
@@ -79,16 +115,18 @@ static size_t used(void *(*call)(void *)) {
     return AREA - low;
 }
 
-static int failed;
+static int passed, failed;
 
 static void hold(const char *name, void *(*call)(void *), uint32_t meant, size_t most) {
     size_t empty = used(nothing), n = used(call) - empty;
     int good = n <= most && outcome == meant;
     printf("stack: %s %zu bytes of %zu%s\n", name, n, most, good ? "" : outcome == meant ? ": MORE THAN THE HEADER SAYS" : ": ANOTHER OUTCOME");
+    passed += good;
     failed += !good;
 }
 
 int main(void) {
+    uint32_t m;
     ring(1000000000);
     hold("check", check, 0, NEELUKUDAM_STACK_CHECK);
     hold("timing, a loop", timing, L, NEELUKUDAM_STACK_TIMING);
@@ -97,6 +135,10 @@ int main(void) {
     hold("timing", timing, 0, NEELUKUDAM_STACK_TIMING);
     hold("path", path, L, NEELUKUDAM_STACK_PATH);
     hold("report", report, (uint32_t)neelukudam_report(image, image_bytes, NULL, 0), NEELUKUDAM_STACK_REPORT);
-    printf("stack: %d passed, %d failed\n", 6 - failed, failed);
+    m = write_text(16);
+    hold("image from text", image_from_text, 32 + 8 + 24 * L + 16 * m, NEELUKUDAM_STACK_IMAGE_FROM_TEXT);
+    m = write_text(17);
+    hold("image from text, refused", image_from_text, 1 + L + m, NEELUKUDAM_STACK_IMAGE_FROM_TEXT);
+    printf("stack: %d passed, %d failed\n", passed, failed);
     return failed != 0;
 }

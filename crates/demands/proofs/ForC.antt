@@ -4,10 +4,13 @@ use mathlib.Core.List.{List}
 use Prim.Native.Nat.{ℕ}
 use lib.IntN.{ℤ}
 use Rattle.timing.proofs.OnePath.{path-some}
-use Rattle.interface.specs.Answers.{timingAnswer, pathAnswer}
-use Rattle.interface.specs.Promise.{TimingForC, PathForC, blank, copied, ReportForC}
+use Rattle.text.proofs.OneOutcome.{text-one}
+use Rattle.text.proofs.SomeOutcome.{text-some}
+use Rattle.interface.specs.Answers.{timingAnswer, pathAnswer, textAnswer}
+use Rattle.interface.specs.Promise.{TimingForC, PathForC, blank, copied, ReportForC, TextForC}
 use Rattle.interface.specs.declared.timing_answer.TimingAnswer.{TimingAnswer}
 use Rattle.interface.specs.declared.path_answer.PathAnswer.{PathAnswer}
+use Rattle.interface.specs.declared.text_answer.TextAnswer.{TextAnswer}
 use Rattle.demands.specs.Rings.{OneRing}
 use Rattle.demands.proofs.OneOutcome.{timing-one, report-one}
 use Rattle.demands.proofs.SomeOutcome.{timing-some, report-some}
@@ -35,3 +38,11 @@ module _ (bytes before : List ℕ) where
   report-call-one p q one =
       let e = report-one bytes blank (p .kept) (q .kept) one in
       (e .0, p .written ∙ rw (e .0, e .1) (sym (q .written)))
+
+module _ (text before : List ℕ) where
+  pub text-call-some : (x : TextAnswer) × (after : List ℕ) × TextForC text before x after
+  text-call-some = let s = text-some text before in (textAnswer (s .0), s .1, record { answer = s .0; kept = s .2; told = refl })
+
+  -- what C gets is what the Rattle call answers, so what the page says of that call holds of this one
+  pub text-call-one : {x y : TextAnswer} {a b : List ℕ} → TextForC text before x a → TextForC text before y b → (x ≡ y) × (a ≡ b)
+  text-call-one p q = let e = text-one (p .kept) (q .kept) in (p .told ∙ ap textAnswer (e .0) ∙ sym (q .told), e .1)

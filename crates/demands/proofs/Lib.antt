@@ -10,3 +10,4 @@ pub mod Explains
 pub mod Refusals
 pub mod Demands
 pub mod ForC
+pub mod TextToImage

@@ -12,3 +12,4 @@ pub mod Tests
 pub mod Validity
 pub mod WalkSteps
 pub mod Words
+pub mod Lists

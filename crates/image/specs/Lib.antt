@@ -5,4 +5,5 @@ pub mod Reader
 pub mod Rules
 pub mod Checks
 pub mod Valid
+pub mod Front
 pub mod inside

@@ -12,7 +12,7 @@ pub(crate) fn fits(at: usize, size: usize, end: usize) -> bool
     if at <= end { size <= end - at } else { false }
 }
 
-fn byte(bytes: &[u8], at: usize) -> u8
+pub fn byte(bytes: &[u8], at: usize) -> u8
     ensures { λ r. ⌜ r ≡ byteAt (now (bytes .entry)) at ⌝ }
 {
     if at < bytes.len() { bytes[at] } else { 0 }

@@ -9,6 +9,7 @@ mod reader;
 mod records;
 mod rules;
 
+pub use bytes::byte;
 pub use bytes::word;
 pub use checks::Checked;
 pub use checks::check;
@@ -23,3 +24,5 @@ pub use reader::Table;
 pub use records::Arc;
 pub use records::Phase;
 pub use records::Synchronizer;
+pub use rules::bad_counts;
+pub use rules::bad_cycle;

@@ -22,13 +22,13 @@ pub enum Rule {
     Order,
 }
 
-pub(crate) fn bad_cycle(header: Header) -> bool
+pub fn bad_cycle(header: Header) -> bool
     ensures { λ r. ⌜ r ≡ badCycle header ⌝ }
 {
     (header.cycle < 1) | (Image::LONGEST_CYCLE < header.cycle)
 }
 
-pub(crate) fn bad_counts(header: Header) -> bool
+pub fn bad_counts(header: Header) -> bool
     ensures { λ r. ⌜ r ≡ badCounts header ⌝ }
 {
     (header.phases < 1)

@@ -5,3 +5,4 @@ pub mod OneOutcome
 -- what C can read back, and what it means
 pub mod Reading
 pub mod Exactly
+pub mod ExactlyText

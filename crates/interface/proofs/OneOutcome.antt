@@ -10,11 +10,13 @@ use Rattle.timing.specs.declared.timing_call.Answer.the-variants.{Growing}
 use Rattle.timing.proofs.OneTiming as rattle
 use Rattle.timing.proofs.OnePath.{path-only}
 use Rattle.report.proofs.OneOutcome as told
-use Rattle.interface.specs.Answers.{checkAnswer, timingAnswer, pathAnswer}
-use Rattle.interface.specs.Promise.{blank, CheckForC, TimingForC, PathForC, ReportForC}
+use Rattle.text.proofs.OneOutcome.{text-one}
+use Rattle.interface.specs.Answers.{checkAnswer, timingAnswer, pathAnswer, textAnswer}
+use Rattle.interface.specs.Promise.{blank, CheckForC, TimingForC, PathForC, ReportForC, TextForC}
 use Rattle.interface.specs.declared.check_answer.CheckAnswer.{CheckAnswer}
 use Rattle.interface.specs.declared.timing_answer.TimingAnswer.{TimingAnswer}
 use Rattle.interface.specs.declared.path_answer.PathAnswer.{PathAnswer}
+use Rattle.interface.specs.declared.text_answer.TextAnswer.{TextAnswer}
 
 pub check-call-only : (bytes : List ℕ) {x y : CheckAnswer} → CheckForC bytes x → CheckForC bytes y → x ≡ y
 check-call-only bytes p q = p .told ∙ ap checkAnswer (check-only bytes (p .answer) (q .answer) (p .kept) (q .kept)) ∙ sym (q .told)
@@ -55,3 +57,6 @@ module _ (bytes before : List ℕ) {m n : ℕ} {x y : List ℕ} (p : ReportForC 
     | inl s ↦ inl (record { size = s .size; text = p .written ∙ rw (s .size, s .text) (sym (q .written)) })
     | inr g ↦ inr g
   ]
+
+pub text-call-only : {text before : List ℕ} {x y : TextAnswer} {a b : List ℕ} → TextForC text before x a → TextForC text before y b → (x ≡ y) × (a ≡ b)
+text-call-only p q = let e = text-one (p .kept) (q .kept) in (p .told ∙ ap textAnswer (e .0) ∙ sym (q .told), e .1)

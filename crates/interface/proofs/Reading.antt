@@ -22,11 +22,16 @@ use Rattle.timing.specs.declared.timing_call.Answer.the-variants as timing
 use Rattle.timing.specs.declared.path_call.Way.{Way}
 use Rattle.timing.specs.declared.path_call.Way.the-variants as path
 use Rattle.report.proofs.Refusals.{refused-small}
-use Rattle.interface.specs.Answers.{checkAnswer, timingAnswer, pathAnswer}
-use Rattle.interface.specs.Promise.{CheckForC, TimingForC, PathForC}
+use Rattle.grammar.specs.Layout.{imageFrom}
+use Rattle.text.specs.TextPromise as written
+use Rattle.text.specs.declared.text_call.Made.{Made}
+use Rattle.text.specs.declared.text_call.Made.the-variants as text
+use Rattle.interface.specs.Answers.{checkAnswer, timingAnswer, pathAnswer, textAnswer}
+use Rattle.interface.specs.Promise.{CheckForC, TimingForC, PathForC, TextForC}
 use Rattle.interface.specs.declared.check_answer.CheckAnswer.{CheckAnswer}
 use Rattle.interface.specs.declared.timing_answer.TimingAnswer.{TimingAnswer}
 use Rattle.interface.specs.declared.path_answer.PathAnswer.{PathAnswer}
+use Rattle.interface.specs.declared.text_answer.TextAnswer.{TextAnswer}
 
 -- the first where the test holds
 abbrev either : {A : Type 0} → Bool → A → A → A
@@ -58,6 +63,9 @@ readTiming a =
 
 abbrev pub readPath : PathAnswer → Way
 readPath a = either (ltb 0 (a .refusal)) (path.Refused (a .refusal) (a .«record»)) (path.Found (a .launch) (a .arcs))
+
+abbrev pub readText : TextAnswer → Made
+readText a = either (ltb 0 (a .refusal)) (text.Refused (a .refusal) (a .«record»)) (text.Image (a .«image_bytes»))
 
 -- a ring that is shown has an arc
 pub shown-some : {f : _} {count : ℕ} {total : ℤ} {before after : List ℕ} → Shown f count total before after → 0 < count
@@ -97,7 +105,16 @@ module _ (bytes : List ℕ) where
     pub path-read : {given : PathAnswer} {A : List ℕ} (c : PathForC bytes i arcs given A) → readPath given ≡ c .answer
     path-read c = rw (c .told) (path-back (c .kept))
 
--- so equal structs come from equal answers, whatever the images and buffers were
+text-back : {words before after : List ℕ} {X : Made} → written.TextCall words before X after → readText (textAnswer X) ≡ X
+text-back (written.faulty f) = refl
+text-back (written.refused {lines} {rule} {culprit} r e) = rw (lt-ltb 0 rule (refused-small rule culprit (imageFrom lines) e .0))
+text-back (written.short r p l) = refl
+text-back (written.made r p l) = refl
+
+pub text-read : {words before after : List ℕ} {given : TextAnswer} (c : TextForC words before given after) → readText given ≡ c .answer
+text-read c = rw (c .told) (text-back (c .kept))
+
+-- so equal structs come from equal answers, whatever the images, texts and buffers were
 pub check-same : (a b : List ℕ) {given : CheckAnswer} (c : CheckForC a given) (d : CheckForC b given) → c .answer ≡ d .answer
 check-same a b c d = sym (check-read a c) ∙ check-read b d
 
@@ -108,3 +125,6 @@ timing-same a b c d = sym (timing-read a c) ∙ timing-read b d
 pub path-same : (a b : List ℕ) {given : PathAnswer} {i j : ℕ} {A B C D : List ℕ} (c : PathForC a i A given C) (d : PathForC b j B given D) →
     c .answer ≡ d .answer
 path-same a b c d = sym (path-read a c) ∙ path-read b d
+
+pub text-same : {s t a b x y : List ℕ} {given : TextAnswer} (c : TextForC s a given x) (d : TextForC t b given y) → c .answer ≡ d .answer
+text-same c d = sym (text-read c) ∙ text-read d

@@ -6,9 +6,12 @@ use Rattle.timing.specs.declared.timing_call.Answer.{Answer}
 use Rattle.timing.specs.declared.timing_call.Answer.the-variants as timing
 use Rattle.timing.specs.declared.path_call.Way.{Way}
 use Rattle.timing.specs.declared.path_call.Way.the-variants as path
+use Rattle.text.specs.declared.text_call.Made.{Made}
+use Rattle.text.specs.declared.text_call.Made.the-variants as text
 use Rattle.interface.specs.declared.check_answer.CheckAnswer.{CheckAnswer}
 use Rattle.interface.specs.declared.timing_answer.TimingAnswer.{TimingAnswer}
 use Rattle.interface.specs.declared.path_answer.PathAnswer.{PathAnswer}
+use Rattle.interface.specs.declared.text_answer.TextAnswer.{TextAnswer}
 
 abbrev pub checkAnswer : Checked → CheckAnswer
 checkAnswer (check.Good image) = record {
@@ -50,3 +53,7 @@ timingAnswer (timing.Timed setups holds) = record {
 abbrev pub pathAnswer : Way → PathAnswer
 pathAnswer (path.Refused rule culprit) = record { refusal = rule; «record» = culprit; launch = 0; arcs = 0 }
 pathAnswer (path.Found launch count) = record { refusal = 0; «record» = 0; launch = launch; arcs = count }
+
+abbrev pub textAnswer : Made → TextAnswer
+textAnswer (text.Image bytes) = record { refusal = 0; «record» = 0; «image_bytes» = bytes }
+textAnswer (text.Refused rule culprit) = record { refusal = rule; «record» = culprit; «image_bytes» = 0 }

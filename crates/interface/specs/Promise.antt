@@ -15,10 +15,13 @@ use Rattle.timing.specs.declared.timing_call.Answer.{Answer}
 use Rattle.timing.specs.declared.path_call.Way.{Way}
 use Rattle.report.specs.Limits.{LONGEST}
 use Rattle.report.specs.Promise.{Report}
-use Rattle.interface.specs.Answers.{checkAnswer, timingAnswer, pathAnswer}
+use Rattle.text.specs.TextPromise.{TextCall}
+use Rattle.text.specs.declared.text_call.Made.{Made}
+use Rattle.interface.specs.Answers.{checkAnswer, timingAnswer, pathAnswer, textAnswer}
 use Rattle.interface.specs.declared.check_answer.CheckAnswer.{CheckAnswer}
 use Rattle.interface.specs.declared.timing_answer.TimingAnswer.{TimingAnswer}
 use Rattle.interface.specs.declared.path_answer.PathAnswer.{PathAnswer}
+use Rattle.interface.specs.declared.text_answer.TextAnswer.{TextAnswer}
 
 pub record CheckForC (bytes : List ℕ) (given : CheckAnswer) : Type 0 where
   pub answer : Checked
@@ -49,3 +52,8 @@ pub record ReportForC (bytes before : List ℕ) (size : ℕ) (after : List ℕ) 
   pub whole : List ℕ
   pub kept : Report bytes blank size whole
   pub written : after ≡ copied (ltb (length before) size) size whole before
+
+pub record TextForC (text before : List ℕ) (given : TextAnswer) (after : List ℕ) : Type 0 where
+  pub answer : Made
+  pub kept : TextCall text before answer after
+  pub told : given ≡ textAnswer answer

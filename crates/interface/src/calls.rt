@@ -1,15 +1,18 @@
 // The functions that C calls. A slice is a pointer and a length to C.
-ghost use Rattle.interface.specs.Promise.{CheckForC, TimingForC, PathForC, ReportForC};
+ghost use Rattle.interface.specs.Promise.{CheckForC, TimingForC, PathForC, ReportForC, TextForC};
 use crate::check_answer::CheckAnswer;
 use crate::check_answer::check_answer;
 use crate::path_answer::PathAnswer;
 use crate::path_answer::path_answer;
+use crate::text_answer::TextAnswer;
+use crate::text_answer::text_answer;
 use crate::timing_answer::TimingAnswer;
 use crate::timing_answer::timing_answer;
 use bytes::copy;
 use image::check;
 use report::LONGEST;
 use report::report;
+use text::image_from_text;
 use timing::path;
 use timing::timing;
 
@@ -54,4 +57,12 @@ pub extern "C" fn neelukudam_report(bytes: &[u8], text: &mut [u8]) -> usize
         return size;
     }
     copy(&whole[..size], text)
+}
+
+// The image of a written circuit.
+#[no_mangle]
+pub extern "C" fn neelukudam_image_from_text(text: &[u8], image: &mut [u8]) -> TextAnswer
+    ensures { λ r. ⌜ TextForC (now (text .entry)) (now (image .entry)) r (now (image .exit)) ⌝ }
+{
+    text_answer(image_from_text(text, image))
 }

@@ -8,3 +8,4 @@ pub mod Known
 pub mod Mistakes
 pub mod Narrower
 pub mod Answered
+pub mod Texts

@@ -4,12 +4,13 @@ use Prim.Native.Nat.{ℕ}
 use Prim.Native.String.{String}
 use lib.IntN.{ℤ, pos, negℤ}
 use Rattle.circuit.specs.Times.{mark}
-use Rattle.known.specs.Layout.{Window, _to_, phase, latch, flipFlop, arc, image}
+use Rattle.grammar.specs.Layout.{laid}
+use Rattle.known.specs.Layout.{Window, _to_, phase, latch, flipFlop, arc}
 
 -- the ring: the latches' delays, the windows of arc 0 and arc 1
 abbrev pub ring : Window → Window → Window → List ℕ
 ring delays back forth =
-    image 100 (phase 50 40 ∷ phase 100 40 ∷ []) (latch 0 10 5 delays ∷ latch 1 10 5 delays ∷ []) (arc 1 0 back ∷ arc 0 1 forth ∷ [])
+    laid 100 (phase 50 40 ∷ phase 100 40 ∷ []) (latch 0 10 5 delays ∷ latch 1 10 5 delays ∷ []) (arc 1 0 back ∷ arc 0 1 forth ∷ [])
 
 unfoldable pub p1 : List ℕ
 p1 = ring (5 to 10) (10 to 20) (20 to 60)
@@ -29,7 +30,7 @@ p5 = ring (10 to 10) (20 to 20) (60 to 60)
 -- two flip-flops: the window of the arc between them
 abbrev pub flipFlops : Window → List ℕ
 flipFlops window =
-    image 100 (phase 100 50 ∷ []) (flipFlop 0 10 10 (8 to 8) ∷ flipFlop 0 10 10 (8 to 8) ∷ []) (arc 0 1 window ∷ [])
+    laid 100 (phase 100 50 ∷ []) (flipFlop 0 10 10 (8 to 8) ∷ flipFlop 0 10 10 (8 to 8) ∷ []) (arc 0 1 window ∷ [])
 
 unfoldable pub p7 : List ℕ
 p7 = flipFlops (2 to 80)
@@ -39,13 +40,13 @@ p8 = flipFlops (1 to 80)
 
 -- a chain of latches on one phase
 unfoldable pub p9 : List ℕ
-p9 = image 100
+p9 = laid 100
     (phase 100 40 ∷ [])
     (latch 0 0 0 (0 to 0) ∷ latch 0 0 0 (0 to 0) ∷ latch 0 0 0 (0 to 0) ∷ [])
     (arc 0 1 (100 to 130) ∷ arc 1 2 (100 to 130) ∷ [])
 
 unfoldable pub p10 : List ℕ
-p10 = image 100 (phase 100 40 ∷ []) [] []
+p10 = laid 100 (phase 100 40 ∷ []) [] []
 
 pub data Outcome : Type 0 where
   -- the six results of each synchronizer, how many setups and how many holds are missed, the report

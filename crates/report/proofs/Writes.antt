@@ -9,14 +9,9 @@ use lib.IntN.{ℤ}
 use mir.Syntax.{w64}
 use mir.Val.{SFits}
 use Rattle.ticks.proofs.Words.{worded, word-is}
+use Rattle.image.proofs.Lists.{sets-append}
 use Rattle.report.specs.Text.{each}
 use Rattle.report.specs.inside.Written.{RoomFor, Wrote, joined, lengths}
-
-sets-append : (xs ys l : List ℕ) (i : ℕ) → sets l i (xs ++ ys) ≡ sets (sets l i xs) (i + length xs) ys
-sets-append [] ys l i = let e : i + 0 ≡ i = omega arith in rw e
-sets-append (x ∷ xs) ys l i =
-    let e : i + suc (length xs) ≡ suc i + length xs = omega arith in
-    rw e (sets-append xs ys (set l i x) (suc i))
 
 pub wrote-none : (before : List ℕ) (at : ℕ) → Wrote [] before at before at
 wrote-none before at = record { stored = refl; ends = omega arith }

@@ -37,7 +37,7 @@ impl Random {
     }
 
     /// A place in a list of this length, which is not 0.
-    fn place(&mut self, length: usize) -> usize {
+    pub fn place(&mut self, length: usize) -> usize {
         (self.draw() % length as u64) as usize
     }
 

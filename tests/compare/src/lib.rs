@@ -4,3 +4,5 @@ pub mod images;
 pub mod independent;
 pub mod known;
 pub mod linked;
+pub mod texts;
+pub mod written;

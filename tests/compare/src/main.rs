@@ -3,20 +3,26 @@
 //!     compare [SEED [PERCENT]]    the whole comparison, with this share of the circuits by chance
 //!     compare SEED PERCENT K N    every N-th image of each part, from the K-th on, so that N processes do the whole together
 //!     compare image HEX           all calls on one image
+//!     compare text HEX            one text
 //!
-//! It stops at the first disagreement, prints it with the image, and ends with status 1.
+//! It stops at the first disagreement, prints it with the image or the text, and ends with status 1.
 #![forbid(unsafe_code)]
 
 use compare::images::{self, Expect, Plan, Random, Size};
 use compare::independent::{self, Numbers, Timing, MARK, MOST_ARCS, MOST_PHASES, MOST_SYNCHRONIZERS};
 use compare::known;
 use compare::linked::{Library, TimingAnswer};
+use compare::texts::{self, Meant};
+use compare::written::{self, MOST_DEPTH, MOST_TEXT_BYTES};
 use std::collections::BTreeMap;
 use std::fmt::Debug;
 use std::time::Instant;
 
 /// The seed of a run that is given none, here and in the script `run`.
 const SEED: u64 = 0x6E65_656C_756B_7564;
+
+/// The largest image there can be.
+const MOST_IMAGE_BYTES: usize = 45_216;
 
 /// Every kind of answer must be seen as often as this in a whole run.
 const LEAST_SEEN: u64 = 20;
@@ -52,12 +58,15 @@ struct Comparison {
     /// What buffers hold before a call, and which of the possible calls are made.
     random: Random,
     images: u64,
+    texts: u64,
     /// How often each answer came: the call, and the kind of answer.
     seen: BTreeMap<(&'static str, String), u64>,
     longest_path: u32,
     longest_loop: u32,
     /// In size, marks aside.
     greatest_number: i64,
+    /// Bytes of the largest image that was made from a text.
+    largest_made: usize,
 }
 
 fn same<T: PartialEq + Debug>(what: &str, linked: T, independent: T) -> Result<(), String> {
@@ -82,10 +91,12 @@ impl Comparison {
             library: Library::default(),
             random: Random::new(0),
             images: 0,
+            texts: 0,
             seen: BTreeMap::new(),
             longest_path: 0,
             longest_loop: 0,
             greatest_number: 0,
+            largest_made: 0,
         }
     }
 
@@ -278,6 +289,74 @@ impl Comparison {
         }
     }
 
+    // ---- A text. ----
+
+    fn image_from_text(&mut self, text: &[u8], room: usize) -> Result<(), String> {
+        let name = format!("image from text with {room} bytes");
+        let before = self.text_by_chance(room);
+        let mut wanted = before.clone();
+        let independent = written::image_from_text(text, &mut wanted);
+        let mut image = before;
+        let linked = self.library.image_from_text(text, &mut image).map_err(|harm| format!("{name}: {harm}"))?;
+        same(&name, linked, independent.into())?;
+        same_places(&format!("{name}: image"), &image, &wanted)?;
+        self.see("image from text", linked.refusal, "made");
+        Ok(())
+    }
+
+    /// One text, in buffers that are empty, one too short, just right and longer; where it is refused, in an empty one and in some.
+    fn text(&mut self, text: &[u8], meant: &Meant) -> Result<(), String> {
+        self.texts += 1;
+        let made = written::image_of(text);
+        let independent = made.as_ref().map_err(|refusal| (refusal.number, refusal.record));
+        match meant {
+            Meant::Unknown => (),
+            Meant::Image(image) => same("what the maker knows", Ok(image), independent)?,
+            Meant::Refused(number, record) => same("what the maker knows", Err((*number, *record)), independent)?,
+        }
+        self.see_text(text, independent);
+        let more = self.random.between(1, 300) as usize;
+        let rooms = match &made {
+            Ok(image) => vec![0, image.len() - 1, image.len(), image.len() + more],
+            // Long texts get room for the largest image too.
+            Err(_) if text.len() > 5_000 => vec![0, more, MOST_IMAGE_BYTES],
+            Err(_) => vec![0, more],
+        };
+        for room in rooms {
+            self.image_from_text(text, room)?;
+        }
+        Ok(())
+    }
+
+    /// Counts what a text shows, as `see_circuit` does for circuits.
+    fn see_text(&mut self, text: &[u8], image: Result<&Vec<u8>, (u32, u32)>) {
+        let has = |byte: u8| text.contains(&byte);
+        let mut kinds = Vec::new();
+        match image {
+            Err((15, _)) if text.len() > MOST_TEXT_BYTES => kinds.push((true, "too long")),
+            Err((15, 0)) => kinds.push((true, "line 0 at fault")),
+            Err((15, _)) => kinds.push((true, "a later line at fault")),
+            Err(_) => (),
+            Ok(image) => {
+                let numbers = independent::check(image).expect("an image that was made is good");
+                let deep = [vec![b'('; MOST_DEPTH], b"1".to_vec()].concat();
+                kinds.push((has(b'+'), "a sum"));
+                kinds.push((has(b'|'), "branches"));
+                kinds.push((has(b'('), "brackets"));
+                kinds.push((text.windows(deep.len()).any(|part| part == deep), "16 deep"));
+                kinds.push((text.windows(3).any(|part| part == b" 00"), "leading zeros"));
+                kinds.push((text.len() == MOST_TEXT_BYTES, "32768 bytes"));
+                kinds.push((numbers.phases == MOST_PHASES, "16 phases"));
+                kinds.push((numbers.synchronizers == MOST_SYNCHRONIZERS, "512 synchronizers"));
+                kinds.push((numbers.arcs == MOST_ARCS, "2048 arcs"));
+                self.largest_made = self.largest_made.max(image.len());
+            }
+        }
+        for (_, kind) in kinds.into_iter().filter(|(shown, _)| *shown) {
+            self.see("text", 0, kind);
+        }
+    }
+
     // ---- Demand 3. ----
 
     /// Whether the narrowed circuit keeps inside the first one, by the library's own numbers.
@@ -324,10 +403,11 @@ fn judge_loop_text(image: &[u8], text: &[u8]) -> Result<(), String> {
 
 /// Runs one part, and prints what it came to.
 fn part(comparison: &mut Comparison, name: &str, work: impl FnOnce(&mut Comparison) -> Result<(), String>) -> Result<(), String> {
-    let (images, calls, since) = (comparison.images, comparison.library.calls, Instant::now());
+    let (images, texts, calls, since) = (comparison.images, comparison.texts, comparison.library.calls, Instant::now());
     work(comparison)?;
-    let (images, calls) = (comparison.images - images, comparison.library.calls - calls);
-    println!("{name}: {images} images, {calls} calls, {:.1} s", since.elapsed().as_secs_f64());
+    let (images, texts, calls) = (comparison.images - images, comparison.texts - texts, comparison.library.calls - calls);
+    let what = if texts > 0 { format!("{texts} texts") } else { format!("{images} images") };
+    println!("{name}: {what}, {calls} calls, {:.1} s", since.elapsed().as_secs_f64());
     Ok(())
 }
 
@@ -337,6 +417,11 @@ fn told<T>(outcome: Result<T, String>, kind: &str, seed: u64, images: &[&[u8]]) 
         let images: Vec<String> = images.iter().map(|image| format!("image: {}", hex(image))).collect();
         format!("{what}\nkind: {kind}, seed of this image: {seed:#x}\n{}", images.join("\n"))
     })
+}
+
+/// The same for a text.
+fn told_of_text(outcome: Result<(), String>, kind: &str, number: u64, text: &[u8]) -> Result<(), String> {
+    outcome.map_err(|what| format!("{what}\nkind: {kind}, number {number}: {:?}\ntext: {}", String::from_utf8_lossy(text), hex(text)))
 }
 
 /// Which images of each part are compared here: every `of`-th, from number `first` on.
@@ -473,6 +558,16 @@ fn compare(seed: u64, percent: u64, turn: Turn) -> Result<Comparison, String> {
         Ok(())
     })?;
 
+    for (kind, all) in texts::parts(|kind, number| seed_of(seed, kind, number), share) {
+        part(c, kind, |c| {
+            for (number, written) in turn.pick((0..).zip(all)) {
+                c.random = Random::new(seed_of(seed, kind, number));
+                told_of_text(c.text(&written.text, &written.meant), kind, number, &written.text)?;
+            }
+            Ok(())
+        })?;
+    }
+
     Ok(comparison)
 }
 
@@ -494,6 +589,22 @@ const CIRCUITS: [&str; 14] = [
     "setup slack 0",
 ];
 
+/// What texts must have shown.
+const TEXTS: [&str; 12] = [
+    "line 0 at fault",
+    "a later line at fault",
+    "too long",
+    "a sum",
+    "branches",
+    "brackets",
+    "16 deep",
+    "leading zeros",
+    "32768 bytes",
+    "16 phases",
+    "512 synchronizers",
+    "2048 arcs",
+];
+
 /// Prints how often each kind of answer came. Err where one came fewer times than `least`, or where one came that there is not.
 fn table(comparison: &Comparison, least: u64) -> Result<(), String> {
     let refusals = |numbers: &[u32]| numbers.iter().map(|number| format!("refused {number}")).collect::<Vec<String>>();
@@ -503,7 +614,9 @@ fn table(comparison: &Comparison, least: u64) -> Result<(), String> {
         ("timing", vec!["timed", "growing"], refusals(&[&image[..], &[10, 11]].concat())),
         ("path", vec!["found"], refusals(&[&image[..], &[11, 12, 13, 14]].concat())),
         ("report", vec!["timed", "loop"], refusals(&image)),
+        ("image from text", vec!["made"], refusals(&[15, 3, 4, 6, 7, 8, 9, 16])),
         ("circuit", CIRCUITS.to_vec(), vec![]),
+        ("text", TEXTS.to_vec(), vec![]),
     ];
     println!("answers seen:");
     let mut seldom = Vec::new();
@@ -520,8 +633,8 @@ fn table(comparison: &Comparison, least: u64) -> Result<(), String> {
         println!("{}", line.trim_end_matches(','));
     }
     println!(
-        "longest path {} arcs, longest loop {} arcs, greatest number {}",
-        comparison.longest_path, comparison.longest_loop, comparison.greatest_number
+        "longest path {} arcs, longest loop {} arcs, greatest number {}, largest image from a text {} bytes",
+        comparison.longest_path, comparison.longest_loop, comparison.greatest_number, comparison.largest_made
     );
     if comparison.greatest_number >= 1 << 41 {
         return Err("a number is 2^41 or more in size".to_string());
@@ -559,6 +672,12 @@ fn run(arguments: &[&str]) -> Option<Result<String, String>> {
         let outcome = told(comparison.image(&image), "given", 0, &[&image]);
         return Some(outcome.map(|_| format!("compare: {} calls agreed on 1 image", comparison.library.calls)));
     }
+    if let ["text", digits] = arguments {
+        let text = unhex(digits)?;
+        let mut comparison = Comparison::new();
+        let outcome = told_of_text(comparison.text(&text, &Meant::Unknown), "given", 0, &text);
+        return Some(outcome.map(|_| format!("compare: {} calls agreed on 1 text", comparison.library.calls)));
+    }
     let whole = Turn { first: 0, of: 1 };
     let (seed, percent, turn) = match arguments {
         [] => (SEED, 100, whole),
@@ -572,7 +691,7 @@ fn run(arguments: &[&str]) -> Option<Result<String, String>> {
     let outcome = compare(seed, percent, turn).and_then(|comparison| {
         // A part of the circuits need not show everything; of several processes each must see its share.
         table(&comparison, if percent < 100 { 0 } else { (LEAST_SEEN + turn.of - 1) / turn.of })?;
-        Ok(format!("compare: {} calls agreed on {} images", comparison.library.calls, comparison.images))
+        Ok(format!("compare: {} calls agreed on {} images and {} texts", comparison.library.calls, comparison.images, comparison.texts))
     });
     Some(outcome.map_err(|what| format!("{what}\nrun's seed: {seed:#x}")))
 }
@@ -590,7 +709,7 @@ fn main() {
             1
         }
         None => {
-            eprintln!("usage: compare [SEED [PERCENT [K N]]] | compare image HEX");
+            eprintln!("usage: compare [SEED [PERCENT [K N]]] | compare image HEX | compare text HEX");
             2
         }
     };

@@ -1,0 +1,13 @@
+pub mod Places
+pub mod Onward
+pub mod Rows
+pub mod Sound
+pub mod Complete
+pub mod OneReading
+pub mod InOrder
+pub mod WordsBack
+pub mod SmallLines
+pub mod HeaderLaid
+pub mod RecordsLaid
+pub mod Computed
+pub mod Example

@@ -1,0 +1,6 @@
+pub mod Numbers
+pub mod Windows
+pub mod Lines
+pub mod Text
+pub mod Layout
+pub mod inside

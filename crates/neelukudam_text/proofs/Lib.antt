@@ -1,0 +1,2 @@
+-- The laws behind the program's promise.
+pub mod Whole

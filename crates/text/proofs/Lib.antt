@@ -1,0 +1,6 @@
+mod Steps
+mod Storing
+mod Reading
+mod Finishing
+pub mod OneOutcome
+pub mod SomeOutcome

@@ -1,0 +1,2 @@
+pub mod TextPromise
+pub mod inside
