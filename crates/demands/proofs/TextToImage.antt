@@ -6,23 +6,23 @@ use mathlib.Core.Logic.{_⊎_, inl, inr, _↔_}
 use Prim.Native.Nat.{ℕ, _<_, _≤_}
 use native.Mathlib.Omega.{arith}
 use lib.Dec.{ltb}
-use lib.ListN.{length, getD, take, drop}
+use lib.ListN.{length, take, drop}
 use lib.Seq.{take-at}
 use Rattle.image.specs.Checks.{refuse, refuseAt, recordsOf, checkOf}
 use Rattle.image.specs.Header.{imageOf}
 use Rattle.image.specs.Rules.{badCycle, badCounts, breaksOf, lowestOf}
 use Rattle.image.specs.declared.rules.Rule.{Rule}
 use Rattle.image.specs.declared.rules.Rule.the-variants.{Phases, Synchronizers, Arcs, Order}
-use Rattle.image.specs.Valid.{Valid, imageIn}
+use Rattle.image.specs.Valid.{Valid}
 use Rattle.image.specs.declared.header.Header.{Header}
 use Rattle.image.specs.declared.header.Image.{Image}
 use Rattle.image.specs.declared.checks.Checked.{Checked}
 use Rattle.image.specs.declared.checks.Checked.the-variants as check
 use Rattle.image.proofs.Validity.{accepts, accepted-is}
 use Rattle.grammar.specs.Text.{longestText, Reads, Fault}
-use Rattle.grammar.specs.Layout.{cycleOf, phasesOf, synchronizersOf, arcsOf, imageFrom}
+use Rattle.grammar.specs.Layout.{imageFrom}
 use Rattle.grammar.specs.declared.read.Line.{Line}
-use Rattle.grammar.proofs.OneReading.{reads-one, fault-one, reads-not-fault, window-one}
+use Rattle.grammar.proofs.OneReading.{reads-one, reads-not-fault, window-one}
 use Rattle.grammar.proofs.SmallLines.{AllSmall, begins-small, begins-few}
 use Rattle.grammar.proofs.HeaderLaid.{headerFor, header-laid, check-laid}
 use Rattle.grammar.proofs.RecordsLaid.{phase-laid, synchronizer-laid, arc-laid}

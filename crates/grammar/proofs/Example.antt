@@ -8,7 +8,7 @@ use Prim.Native.String.{String, [] as none, _∷_ as _then_}
 use native.Mathlib.Omega.{arith}
 use lib.Dec.{lit<, lit≤}
 use lib.ListN.{length, drop}
-use Rattle.grammar.specs.Text.{longestText, start, Reads, Fault, at-line}
+use Rattle.grammar.specs.Text.{start, Reads, Fault, at-line}
 use Rattle.grammar.specs.inside.Reader.{lost, lineAt}
 use Rattle.grammar.specs.declared.read.Line.the-variants.{Cycle, Phase, Synchronizer}
 use Rattle.grammar.specs.declared.read.Read.{Read}

@@ -42,9 +42,6 @@ unfolding imageFrom
 image-parts lines = rw (map-long phaseWords (phasesOf lines), map-long synchronizerWords (synchronizersOf lines), map-long arcWords (arcsOf lines))
 
 -- ---- how long the parts are
-pub head-long : (lines : List Line) → length (bytesOf (headOf lines)) ≡ headerBytes
-head-long lines = refl
-
 pub phases-long : (lines : List Line) → length (phaseRows lines) ≡ 8 * length (phasesOf lines)
 phases-long lines = table-long phaseWords 2 (λ p. refl) (phasesOf lines)
 

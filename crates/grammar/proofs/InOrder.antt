@@ -63,9 +63,6 @@ table-append f (x ∷ xs) ys = rw (table-append f xs ys) (sym (append-assoc (byt
 pub table-snoc : {A : Type 0} (f : A → List ℕ) (xs : List A) (x : A) → table (map f (xs ++ (x ∷ []))) ≡ table (map f xs) ++ bytesOf (f x)
 table-snoc f xs x = rw (table-append f xs (x ∷ []), append-nil (bytesOf (f x)))
 
-pub flat-append : (xs ys : List Line) → flat (xs ++ ys) ≡ flat xs ++ flat ys
-flat-append xs ys = table-append wordsOf xs ys
-
 pub flat-snoc : (lines : List Line) (x : Line) → flat (lines ++ (x ∷ [])) ≡ flat lines ++ bytesOf (wordsOf x)
 flat-snoc lines x = table-snoc wordsOf lines x
 

@@ -146,10 +146,6 @@ pub field-onward : (bytes : List ℕ) (at c : ℕ) → at ≤ lost → at ≤ fi
 unfolding fieldAt
 field-onward bytes at c h = behind-from bytes (numberAt bytes at .next) c at h (number-onward bytes at h)
 
-pub field-small : (bytes : List ℕ) (at c : ℕ) → fieldAt bytes at c .value ≤ greatest
-unfolding fieldAt
-field-small bytes at c = number-small bytes at
-
 -- ---- windows
 ends-onward : (bytes : List ℕ) (at : ℕ) → length bytes ≤ lost → at ≤ lost → Onward at (endsAt bytes at .next)
 unfolding endsAt
@@ -234,16 +230,6 @@ mutual
 
 pub span-onward : (f : ℕ) (form : Form) (depth : ℕ) (bytes : List ℕ) (at : ℕ) → length bytes ≤ lost → at ≤ lost → at ≤ spanAt f form depth bytes at .next
 span-onward f form depth bytes at l h = span-from f form depth bytes at l h .0
-
-pub span-within : (f : ℕ) (form : Form) (depth : ℕ) (bytes : List ℕ) (at : ℕ) → length bytes ≤ lost → at ≤ lost → spanAt f form depth bytes at .next ≤ lost
-span-within f form depth bytes at l h = span-from f form depth bytes at l h .1
-
-pub rest-onward : (f : ℕ) (j : Join) (depth : ℕ) (bytes : List ℕ) (w : Span) → length bytes ≤ lost → w .next ≤ lost →
-    w .next ≤ restAt f j depth bytes w .next
-rest-onward f j depth bytes w l h = rest-from f j depth bytes w l h .0
-
-pub rest-within : (f : ℕ) (j : Join) (depth : ℕ) (bytes : List ℕ) (w : Span) → length bytes ≤ lost → w .next ≤ lost → restAt f j depth bytes w .next ≤ lost
-rest-within f j depth bytes w l h = rest-from f j depth bytes w l h .1
 
 pub window-within : (bytes : List ℕ) (at : ℕ) → length bytes ≤ lost → windowAt bytes at .next ≤ lost
 unfolding windowAt
@@ -376,6 +362,3 @@ line-from bytes at l h =
 -- a line takes a byte at least
 pub line-onward : (bytes : List ℕ) (at : ℕ) → length bytes ≤ longestText → at < length bytes → at < lineAt bytes at .next
 line-onward bytes at l h = line-from bytes at (omega arith) (omega arith) .0
-
-pub line-within : (bytes : List ℕ) (at : ℕ) → length bytes ≤ longestText → at < length bytes → lineAt bytes at .next ≤ lost
-line-within bytes at l h = line-from bytes at (omega arith) (omega arith) .1

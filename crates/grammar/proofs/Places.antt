@@ -1,11 +1,11 @@
 -- Places in a text: the byte at a place is the first of those that are left from it on.
-use mathlib.Core.Path.{_≡_, refl, sym, ap, _∙_, subst}
+use mathlib.Core.Path.{_≡_, sym, ap, _∙_}
 use mathlib.Core.List.{List, [], _∷_, _++_}
 use Prim.Native.Nat.{ℕ, zero, suc, _+_, _≤_, _<_}
-use native.Mathlib.Nat.{suc-add, add-suc, add-zero, zero-add}
+use native.Mathlib.Nat.{suc-add, add-suc, add-zero}
 use native.Mathlib.Numerals.{add-one}
 use native.Mathlib.Omega.{arith}
-use lib.ListN.{length, drop, getD, List·getD-eq-default, length-append, length-drop}
+use lib.ListN.{length, drop}
 use lib.Seq.{drop-cons}
 use Rattle.image.specs.Words.{byteAt}
 

@@ -27,7 +27,7 @@ use Rattle.grammar.specs.inside.Reader.{noLine, cycleAt, phaseAt, synchr
 use Rattle.grammar.proofs.Places.{left, reads-inside}
 use Rattle.grammar.proofs.Onward.{behind-onward, behind-within, word-onward, number-onward, number-within, number-small}
 use Rattle.grammar.proofs.Onward.{field-onward, field-within, digit-true, digit-inside, between-inside}
-use Rattle.grammar.proofs.Onward.{span-from, rest-from, window-onward, window-within, window-small}
+use Rattle.grammar.proofs.Onward.{rest-from, window-onward, window-within, window-small}
 
 -- from one place to the next stand bytes of which P holds
 pub record Stands (P : List ℕ → Type 0) (bytes : List ℕ) (at next : ℕ) : Type 0 where
@@ -53,9 +53,6 @@ number-lost bytes l = omega (arith, number-onward bytes lost (omega arith), numb
 
 pub field-lost : (bytes : List ℕ) (c : ℕ) → length bytes ≤ longestText → fieldAt bytes lost c .next ≡ lost
 field-lost bytes c l = omega (arith, field-onward bytes lost c (omega arith), field-within bytes lost c (omega arith))
-
-pub span-lost : (f : ℕ) (form : Form) (depth : ℕ) (bytes : List ℕ) → length bytes ≤ longestText → spanAt f form depth bytes lost .next ≡ lost
-span-lost f form depth bytes l = omega (arith, span-from f form depth bytes lost (omega arith) (omega arith))
 
 pub rest-lost : (f : ℕ) (j : Join) (depth : ℕ) (bytes : List ℕ) (w : Span) → length bytes ≤ longestText → w .next ≡ lost → restAt f j depth bytes w .next ≡ lost
 rest-lost f j depth bytes w l e = omega (arith, rest-from f j depth bytes w (omega arith) (omega arith))

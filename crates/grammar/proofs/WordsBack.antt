@@ -46,11 +46,6 @@ word-first (w ∷ ws) after zero l h = word-back w h
 word-first (w ∷ ws) after (suc i) l h =
     word-from (le32 w) (bytesOf ws ++ after) (4 * i) (4 * suc i) (omega arith) ∙ word-first ws after i (omega arith) h
 
--- word i of words that are laid out behind others
-pub word-laid : (before ws after : List ℕ) (i at : ℕ) → i < length ws → at ≡ length before + 4 * i → getD ws i 0 < wordLimit →
-    wordAt (before ++ (bytesOf ws ++ after)) at ≡ getD ws i 0
-word-laid before ws after i at l e h = word-from before (bytesOf ws ++ after) (4 * i) at e ∙ word-first ws after i l h
-
 -- ---- how long words and tables are
 pub bytes-long : (ws : List ℕ) → length (bytesOf ws) ≡ 4 * length ws
 bytes-long [] = refl

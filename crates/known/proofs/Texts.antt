@@ -1,7 +1,7 @@
 -- P1's text makes P1's bytes, written with and without brackets, and a bad line is named. Each line is read by computing.
 use mathlib.Core.Path.{_≡_, refl, ap, subst, _∙_}
 use mathlib.Core.Bool.{true}
-use mathlib.Core.List.{List, [], _∷_, _++_, append-assoc, append-nil}
+use mathlib.Core.List.{List, [], _∷_, _++_}
 use mathlib.Core.Logic.{inl}
 use Prim.Native.Nat.{ℕ, _≤_, _<_}
 use Prim.Native.String.{String}
@@ -11,9 +11,8 @@ use lib.ListN.{length, drop}
 use Rattle.image.specs.Checks.{checkOf}
 use Rattle.image.specs.Valid.{imageIn}
 use Rattle.image.specs.declared.checks.Checked.the-variants.{Good}
-use Rattle.grammar.specs.Text.{longestText, stageAfter, InPlace, Begins, start, Reads, Stops, at-line}
+use Rattle.grammar.specs.Text.{longestText, Begins, start, Reads, Stops, at-line}
 use Rattle.grammar.specs.Layout.{imageFrom}
-use Rattle.grammar.specs.declared.read.Line.{Line}
 use Rattle.grammar.specs.declared.read.Line.the-variants.{Cycle, Phase, Synchronizer, Arc}
 use Rattle.grammar.specs.declared.read.Read.{Read}
 use Rattle.grammar.specs.inside.Reader.{lost, lineAt}

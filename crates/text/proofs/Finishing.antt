@@ -1,16 +1,16 @@
 -- The end of a text: it has a reading, or its lowest line at fault has been found. Of a reading, the rules about the cycle and the counts tell
 -- whether there is room for the image; where there is, the image stands in the room once its header does.
 use mathlib.Core.Path.{_≡_, refl, sym, ap, subst, _∙_}
-use mathlib.Core.Bool.{Bool, true, false, _||_, not, cond}
+use mathlib.Core.Bool.{Bool, true, false, _||_, not}
 use mathlib.Core.List.{List, [], _∷_, _++_, append-assoc}
 use mathlib.Core.Logic.{_⊎_, inl, inr, _≢_}
-use Prim.Native.Nat.{ℕ, zero, suc, _+_, _-_, _*_, _≤_, _<_}
+use Prim.Native.Nat.{ℕ, zero, _+_, _-_, _≤_}
 use native.Mathlib.Omega.{arith}
-use lib.Dec.{ltb, leb, eqb}
-use lib.ListN.{length, take, drop, replicate, length-append, length-drop, length-replicate, drop-of-length-le}
+use lib.Dec.{eqb}
+use lib.ListN.{length, take, drop, replicate, length-append, length-replicate, drop-of-length-le}
 use lib.Seq.{sets, sets-eq, length-sets, take-at, drop-at, length-take-le}
-use borrow.Author.Tests.{eqb-true, eqb-false, not-false, ltb-false}
-use Rattle.image.specs.Header.{headerBytes, mostBytes, mostPhases, mostSynchronizers, mostArcs, imageOf}
+use borrow.Author.Tests.{eqb-true, eqb-false}
+use Rattle.image.specs.Header.{headerBytes, mostBytes, imageOf}
 use Rattle.image.specs.Rules.{badCycle, badCounts}
 use Rattle.image.specs.Checks.{refuse, recordsOf, checkOf}
 use Rattle.image.specs.declared.header.Header.{Header}
@@ -18,8 +18,7 @@ use Rattle.image.specs.declared.checks.Checked.{Checked}
 use Rattle.image.specs.declared.checks.Checked.the-variants as check
 use Rattle.image.proofs.Validity.{counts-iff}
 use Rattle.grammar.specs.Text.{lineFeed, longestText, Begins, Reads, Stuck, Stops, Fault, at-line}
-use Rattle.grammar.specs.Layout.{bytesOf, imageFrom, phasesOf, synchronizersOf, arcsOf}
-use Rattle.grammar.specs.inside.Reader.{lost}
+use Rattle.grammar.specs.Layout.{bytesOf, imageFrom}
 use Rattle.grammar.specs.inside.Rows.{flat}
 use Rattle.grammar.specs.declared.read.Line.{Line}
 use Rattle.grammar.proofs.InOrder.{in-order}

@@ -1,20 +1,20 @@
 -- Reading line after line: what holds of the tally and the room before a line holds after it too (`SoFar`), and at the end of the text it says
 -- whether the text has a reading.
 use mathlib.Core.Path.{_≡_, refl, sym, ap, subst, _∙_}
-use mathlib.Core.Bool.{Bool, true, false, _&&_, not, cond}
-use mathlib.Core.List.{List, [], _∷_, _++_, append-assoc}
-use mathlib.Core.Logic.{_⊎_, inl, inr, _≢_}
-use Prim.Native.Nat.{ℕ, zero, suc, _+_, _-_, _*_, _≤_, _<_}
+use mathlib.Core.Bool.{Bool, true, false, _&&_, not}
+use mathlib.Core.List.{List, [], _∷_, _++_}
+use mathlib.Core.Logic.{_≢_}
+use Prim.Native.Nat.{ℕ, _+_, _-_, _*_, _≤_, _<_}
 use native.Mathlib.Omega.{arith}
-use lib.Dec.{leb, eqb}
+use lib.Dec.{eqb}
 use lib.ListN.{length, drop, set, replicate, length-append, length-drop}
-use lib.Seq.{sets, length-sets}
-use borrow.Author.Tests.{eq-eqb, ne-eqb, eqb-true, eqb-false, leb-true, le-leb}
+use lib.Seq.{sets}
+use borrow.Author.Tests.{ne-eqb, eqb-false}
 use Rattle.image.specs.Header.{headerBytes, mostBytes}
 use Rattle.image.proofs.Lists.{sets-append}
 use Rattle.grammar.specs.Lines.{Says}
-use Rattle.grammar.specs.Text.{rank, stageAfter, lineFeed, longestText, InPlace, Begins, start, one-more, Reads, Stuck, Stops}
-use Rattle.grammar.specs.Layout.{bytesOf, cycleOf, phasesOf, synchronizersOf, arcsOf}
+use Rattle.grammar.specs.Text.{rank, stageAfter, lineFeed, longestText, InPlace, Begins, start, one-more, Stuck}
+use Rattle.grammar.specs.Layout.{bytesOf, phasesOf, synchronizersOf, arcsOf}
 use Rattle.grammar.specs.inside.Reader.{lost, lineAt}
 use Rattle.grammar.specs.inside.Rows.{wordsOf, flat}
 use Rattle.grammar.specs.declared.read.Line.{Line}

@@ -1,19 +1,16 @@
 -- One step of grammar's reader: what it gives where a test holds, and where it does not.
-use mathlib.Core.Path.{_≡_, refl, sym, ap, _∙_}
-use mathlib.Core.Bool.{Bool, true, false, _&&_, not, cond}
+use mathlib.Core.Path.{_≡_, refl}
+use mathlib.Core.Bool.{Bool, true, false, _&&_, not}
 use mathlib.Core.List.{List}
-use Prim.Native.Nat.{ℕ, zero, suc, _+_, _-_, _*_, _≤_, _<_, min, max}
-use native.Mathlib.Numerals.{add-one, sub-one}
+use Prim.Native.Nat.{ℕ, zero, suc, _+_, _-_, _≤_, _<_}
+use native.Mathlib.Numerals.{sub-one}
 use native.Mathlib.Omega.{arith}
 use lib.Dec.{ltb, leb, eqb}
 use lib.ListN.{length}
-use borrow.Author.Tests.{lt-ltb, le-ltb, le-leb, lt-leb, eq-eqb, ne-eqb, leb-true, leb-false}
+use borrow.Author.Tests.{lt-ltb, le-ltb, le-leb, lt-leb, eq-eqb, ne-eqb, leb-true}
 use Rattle.image.specs.Words.{byteAt}
 use Rattle.grammar.specs.Numbers.{greatest, mostDigits}
-use Rattle.grammar.specs.Windows.{series, parallel}
-use Rattle.grammar.specs.inside.Reader.{lost, behind, isDigit, longer, noNumber, digitsAt, numberAt, noSpan, joinedSpan}
-use Rattle.grammar.specs.declared.read.Span.{Span}
-use Rattle.grammar.proofs.Places.{reads-inside}
+use Rattle.grammar.specs.inside.Reader.{lost, behind, isDigit, longer, noNumber, digitsAt, numberAt}
 
 pub behind-hit : (bytes : List ℕ) (at c : ℕ) → at < length bytes → byteAt bytes at ≡ c → behind bytes at c ≡ at + 1
 unfolding behind

@@ -1,15 +1,15 @@
 -- How a text is read: by functions from a place in it to what stands there and the place behind. The grammar says what may stand; these say how
 -- it is found, and the code follows them. A place past every text says that nothing was read: every byte there reads 0, so whatever is asked for
 -- next is not found either.
-use mathlib.Core.Bool.{Bool, true, false, _&&_, cond}
+use mathlib.Core.Bool.{Bool, _&&_, cond}
 use mathlib.Core.List.{List, [], _∷_}
 use Prim.Native.Char.{code}
-use Prim.Native.Nat.{ℕ, zero, suc, _+_, _-_, _*_, _≤_, min, max}
+use Prim.Native.Nat.{ℕ, zero, suc, _+_, _-_, _*_, min, max}
 use lib.Dec.{ltb, leb, eqb}
 use lib.ListN.{length}
 use Rattle.image.specs.Words.{byteAt}
 use Rattle.grammar.specs.Numbers.{greatest, mostDigits}
-use Rattle.grammar.specs.Windows.{Join, series, parallel, Form, atom, row, branch, expression, part, between, colon, opening, closing, deepest}
+use Rattle.grammar.specs.Windows.{Join, series, parallel, Form, atom, row, expression, part, between, colon, opening, closing, deepest}
 use Rattle.grammar.specs.Lines.{space, tc, phase, latch, flop, arc}
 use Rattle.grammar.specs.Text.{lineFeed, rank}
 use Rattle.grammar.specs.declared.read.Number.{Number}

@@ -1,5 +1,5 @@
 -- `lay` goes by the kind of the line: its words are put two by two.
-use mathlib.Core.Path.{_≡_, refl}
+use mathlib.Core.Path.{refl}
 use borrow.Author.Needs.{needs}
 use Rattle.text.proofs.layout.lay.Statement.{statement}
 use Rattle.text.proofs.layout.lay.Tie as tie

@@ -1,5 +1,5 @@
 -- `put` stores the four bytes of a word, where they have room.
-use mathlib.Core.Path.{_≡_, refl}
+use mathlib.Core.Path.{refl}
 use native.Mathlib.Omega.{arith}
 use borrow.Author.Needs.{needs}
 use Rattle.text.proofs.Storing.{no-room, four-bytes}

@@ -1,5 +1,5 @@
 -- `put_header` puts eight words one behind the other.
-use mathlib.Core.Path.{_≡_, refl}
+use mathlib.Core.Path.{refl}
 use borrow.Author.Needs.{needs}
 use Rattle.text.proofs.layout.put_header.Statement.{statement}
 use Rattle.text.proofs.layout.put_header.Tie as tie

@@ -1,5 +1,5 @@
 -- `put_two` puts a word, and another behind it.
-use mathlib.Core.Path.{_≡_, refl}
+use mathlib.Core.Path.{refl}
 use borrow.Author.Needs.{needs}
 use Rattle.text.proofs.layout.put_two.Statement.{statement}
 use Rattle.text.proofs.layout.put_two.Tie as tie

@@ -1,5 +1,5 @@
 -- Four bytes, one behind the other.
-use mathlib.Core.Path.{_≡_, refl}
+use mathlib.Core.Path.{refl}
 use borrow.Author.Needs.{needs}
 use Rattle.text.proofs.lines.after_four.Statement.{statement}
 use Rattle.text.proofs.lines.after_four.Tie as tie

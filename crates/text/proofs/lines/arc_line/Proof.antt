@@ -1,5 +1,5 @@
 -- `arc`, two numbers and a window.
-use mathlib.Core.Path.{_≡_, refl}
+use mathlib.Core.Path.{refl}
 use borrow.Author.Needs.{needs}
 use Rattle.grammar.specs.inside.Reader.{arcAt}
 use Rattle.text.proofs.lines.arc_line.Statement.{statement}

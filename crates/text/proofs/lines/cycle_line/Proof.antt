@@ -1,5 +1,5 @@
 -- `tc`, a space, a number and a line feed.
-use mathlib.Core.Path.{_≡_, refl}
+use mathlib.Core.Path.{refl}
 use borrow.Author.Needs.{needs}
 use Rattle.grammar.specs.inside.Reader.{cycleAt}
 use Rattle.text.proofs.lines.cycle_line.Statement.{statement}

@@ -1,5 +1,5 @@
 -- `phase` and two numbers.
-use mathlib.Core.Path.{_≡_, refl}
+use mathlib.Core.Path.{refl}
 use borrow.Author.Needs.{needs}
 use Rattle.grammar.specs.inside.Reader.{phaseAt}
 use Rattle.text.proofs.lines.phase_line.Statement.{statement}

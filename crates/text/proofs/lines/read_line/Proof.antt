@@ -1,8 +1,8 @@
 -- `read_line` goes by the first byte.
-use mathlib.Core.Path.{_≡_, refl}
+use mathlib.Core.Path.{refl}
 use Prim.Native.Char.{code}
 use borrow.Author.Needs.{needs}
-use borrow.Author.Tests.{eq-eqb, ne-eqb}
+use borrow.Author.Tests.{ne-eqb}
 use Rattle.grammar.specs.inside.Reader.{lineAt}
 use Rattle.text.proofs.lines.read_line.Statement.{statement}
 use Rattle.text.proofs.lines.read_line.Tie as tie

@@ -1,5 +1,5 @@
 -- Three numbers and a window, behind the word for the kind.
-use mathlib.Core.Path.{_≡_, refl}
+use mathlib.Core.Path.{refl}
 use borrow.Author.Needs.{needs}
 use Rattle.grammar.specs.inside.Reader.{synchronizerAt}
 use Rattle.text.proofs.lines.synchronizer_line.Statement.{statement}

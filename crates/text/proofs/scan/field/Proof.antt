@@ -1,5 +1,5 @@
 -- `field` is a number, and then a byte.
-use mathlib.Core.Path.{_≡_, refl}
+use mathlib.Core.Path.{refl}
 use borrow.Author.Needs.{needs}
 use Rattle.grammar.specs.inside.Reader.{fieldAt}
 use Rattle.text.proofs.scan.field.Statement.{statement}

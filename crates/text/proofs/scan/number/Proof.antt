@@ -1,5 +1,5 @@
 -- `number` takes a digit a turn. What is left to read from the place on, behind the digits taken, is what the whole number is read as.
-use mathlib.Core.Path.{_≡_, refl, sym, _∙_}
+use mathlib.Core.Path.{_≡_, sym, _∙_}
 use mathlib.Core.Bool.{true, false, not}
 use Prim.Native.Char.{code}
 use Prim.Native.Nat.{_≤_, _<_}

@@ -1,5 +1,5 @@
 -- `hand_over` goes by the answer of the check, and then by the length of the buffer.
-use mathlib.Core.Path.{_≡_, refl, sym, _∙_}
+use mathlib.Core.Path.{sym, _∙_}
 use lib.Seq.{take-length}
 use borrow.Author.Needs.{needs}
 use Rattle.text.specs.inside.Handed.{refused, short, made}

@@ -1,5 +1,5 @@
 -- `header_of` takes the offsets from the counts.
-use mathlib.Core.Path.{_≡_, refl}
+use mathlib.Core.Path.{refl}
 use borrow.Author.Needs.{needs}
 use Rattle.text.proofs.text_call.header_of.Statement.{statement}
 use Rattle.text.proofs.text_call.header_of.Tie as tie

@@ -1,12 +1,11 @@
 -- `image_from_text`: a text that is too long; a line at fault; a bad cycle or bad counts; and an image in the room, which is handed over.
-use mathlib.Core.Path.{_≡_, refl, sym, ap, _∙_}
+use mathlib.Core.Path.{_≡_, sym, ap, _∙_}
 use native.Mathlib.Omega.{arith}
 use mathlib.Core.Bool.{false}
 use borrow.Author.Needs.{needs}
 use Rattle.image.specs.Rules.{badCycle, badCounts}
 use Rattle.image.specs.declared.header.Header.{Header}
 use Rattle.grammar.specs.Text.{too-long}
-use Rattle.grammar.specs.Layout.{imageFrom}
 use Rattle.text.specs.TextPromise.{faulty, refused}
 use Rattle.text.specs.inside.Stores.{storedAll, wordsIn}
 use Rattle.text.specs.inside.Tally.{headerFrom}

@@ -1,7 +1,7 @@
 -- `in_place` is the test of the definition.
-use mathlib.Core.Path.{_≡_, refl}
+use mathlib.Core.Path.{refl}
 use borrow.Author.Needs.{needs}
-use borrow.Author.Tests.{eq-eqb, ne-eqb}
+use borrow.Author.Tests.{ne-eqb}
 use Rattle.text.proofs.text_call.in_place.Statement.{statement}
 use Rattle.text.proofs.text_call.in_place.Tie as tie
 

@@ -1,5 +1,4 @@
 -- `read_lines` takes line after line, to the end of the text or to a line at fault.
-use mathlib.Core.Path.{_≡_, refl}
 use Prim.Native.Nat.{_-_}
 use native.Mathlib.Omega.{arith}
 use lib.ListN.{length}

@@ -1,8 +1,8 @@
 -- The readers of an atom, a branch and an expression call each other. Each is measured by the bytes that are left, three times over, and by its
 -- place among the three: an expression calls a branch and a branch an atom at the same byte, and an atom calls an expression behind its bracket.
-use Prim.Native.Nat.{ℕ, _<_, _≤_, _-_, _+_, _*_}
+use Prim.Native.Nat.{ℕ, _<_, _-_, _+_, _*_}
 use native.Mathlib.Omega.{arith}
-use mathlib.Core.Path.{_≡_, sym, _∙_}
+use mathlib.Core.Path.{sym, _∙_}
 use lib.ListN.{length}
 use borrow.Author.Needs.{needs}
 use borrow.Fn.Kinds.{In}

@@ -1,5 +1,5 @@
 -- `closed` asks for the bracket behind a window.
-use mathlib.Core.Path.{_≡_, refl}
+use mathlib.Core.Path.{refl}
 use borrow.Author.Needs.{needs}
 use Rattle.grammar.specs.inside.Reader.{closedAt}
 use Rattle.text.proofs.windows.closed.Statement.{statement}

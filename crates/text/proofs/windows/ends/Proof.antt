@@ -1,5 +1,5 @@
 -- `ends` reads LO and a colon, then HI, and asks that LO is not above HI.
-use mathlib.Core.Path.{_≡_, refl}
+use mathlib.Core.Path.{refl}
 use borrow.Author.Needs.{needs}
 use borrow.Author.Tests.{le-leb, lt-leb}
 use Rattle.grammar.specs.inside.Reader.{endsAt}

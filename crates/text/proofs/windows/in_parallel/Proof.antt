@@ -1,5 +1,5 @@
 -- `in_parallel` takes the lesser low and the greater high.
-use mathlib.Core.Path.{_≡_, refl}
+use mathlib.Core.Path.{refl}
 use borrow.Author.Needs.{needs}
 use Rattle.grammar.specs.inside.Reader.{joinedSpan}
 use Rattle.text.proofs.windows.in_parallel.Statement.{statement}

@@ -1,5 +1,5 @@
 -- `in_series` adds both ends, in wider numbers, and then asks for the limit.
-use mathlib.Core.Path.{_≡_, refl}
+use mathlib.Core.Path.{refl}
 use native.Mathlib.Omega.{arith}
 use borrow.Author.Needs.{needs}
 use Rattle.grammar.specs.inside.Reader.{joinedSpan}
