@@ -65,17 +65,23 @@ module _ (p : ℕ) (first second : List ℕ) (x : Exchanged p first second) wher
   abbrev k : ℕ
   k = imageIn first .phases
 
+  here : suc p < k
+  here = omega (arith, x .here)
+
+  close : phaseIn first p .closing ≡ phaseIn first (suc p) .closing
+  close = omega (arith, x .close)
+
   -- a phase of the second, by its old number
   phase-was : (q : ℕ) → q < k → phaseIn second q ≡ phaseIn first (swapped p q)
-  phase-was q l = ap (phaseIn second) (sym (swapped-back p q)) ∙ x .phase (swapped p q) (swapped-below p q k (x .here) l)
+  phase-was q l = ap (phaseIn second) (sym (swapped-back p q)) ∙ x .phase (swapped p q) (swapped-below p q k here l)
 
   -- phases of one number close at one time
   closing-stays : (q : ℕ) → phaseIn first (swapped p q) .closing ≡ phaseIn first q .closing
   closing-stays q = go (swaps p q)
     where
       go : {r : ℕ} → Swaps p q r → phaseIn first r .closing ≡ phaseIn first q .closing
-      go (inl h) = rw (h .0, h .1) (sym (x .close))
-      go (inr (inl h)) = rw (h .0, h .1) (x .close)
+      go (inl h) = rw (h .0, h .1) (sym close)
+      go (inr (inl h)) = rw (h .0, h .1) close
       go (inr (inr h)) = rw (h .2)
 
   closing-same : (q : ℕ) → q < k → phaseIn second q .closing ≡ phaseIn first q .closing
@@ -98,16 +104,15 @@ module _ (p : ℕ) (first second : List ℕ) (x : Exchanged p first second) wher
   cycle-same = ap (λ (i : Image). i .cycle) exchanged-image
 
   pub exchanged-back : Exchanged p second first
-  exchanged-back =
-      let here = x .here in record {
-        header = sym (x .header);
-        long = sym (x .long);
-        here = rw phases-same here;
-        close = closing-same p (omega arith) ∙ x .close ∙ sym (closing-same (suc p) here);
-        phase = λ q l. sym (phase-was q (rw phases-same at l));
-        synchronizer = λ i l. rw (x .synchronizer i (rw synchronizers-same at l), swapped-back p (synchronizerIn first i .phase)) refl;
-        arc = λ a l. sym (x .arc a (rw arcs-same at l));
-      }
+  exchanged-back = record {
+    header = sym (x .header);
+    long = sym (x .long);
+    here = omega (arith, x .here, phases-same);
+    close = omega (arith, x .close, closing-same p (omega (arith, here)), closing-same (suc p) here);
+    phase = λ q l. sym (phase-was q (rw phases-same at l));
+    synchronizer = λ i l. rw (x .synchronizer i (rw synchronizers-same at l), swapped-back p (synchronizerIn first i .phase)) refl;
+    arc = λ a l. sym (x .arc a (rw arcs-same at l));
+  }
 
   pub exchanged-valid : Valid first → Valid second
   exchanged-valid v = record {
@@ -124,14 +129,14 @@ module _ (p : ℕ) (first second : List ℕ) (x : Exchanged p first second) wher
     arc-table = rw (x .header) (v .arc-table);
     total = rw (x .header, x .long) (v .total);
     phase = λ q l. let m : q < k = rw phases-same at l in
-        rw (phase-was q m, cycle-same) (v .phase (swapped p q) (swapped-below p q k (x .here) m));
+        rw (phase-was q m, cycle-same) (v .phase (swapped p q) (swapped-below p q k here m));
     rising = λ q l. let m : suc q < k = rw phases-same at l in
         rw (closing-same q (omega arith), closing-same (suc q) m) (v .rising q m);
     last = λ q e. let f : suc q ≡ k = e ∙ phases-same in closing-same q (omega arith) ∙ v .last q f ∙ sym cycle-same;
     synchronizer = λ i l. let m : i < imageIn first .synchronizers = rw synchronizers-same at l in
         let h = v .synchronizer i m in
         rw (x .synchronizer i m, cycle-same, phases-same) (record {
-          phase = swapped-below p (synchronizerIn first i .phase) k (x .here) (h .phase);
+          phase = swapped-below p (synchronizerIn first i .phase) k here (h .phase);
           kind = h .kind;
           setup = h .setup;
           hold = h .hold;
@@ -170,7 +175,7 @@ module _ (p : ℕ) (first second : List ℕ) (x : Exchanged p first second) wher
 
     there : (q : ℕ) → q < c .phases → swapped p q < d .phases
     unfolding circuitOf
-    there q l = rw phases-same (swapped-below p q k (x .here) l)
+    there q l = rw phases-same (swapped-below p q k here l)
 
     from-same : (a : ℕ) → a < c .arcs → d .from a ≡ c .from a
     unfolding circuitOf

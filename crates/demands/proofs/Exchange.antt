@@ -106,12 +106,18 @@ module _ (p : ℕ) (first second : List ℕ) (x : Exchanged p first second) (v :
     written = rw nodes (r .written);
   }
 
-pub phases-exchanged : (p : ℕ) (first second : List ℕ) (numbers : List ℤ) (arcs text : List ℕ) (i : ℕ) → PhasesExchanged p first second numbers arcs text i
-phases-exchanged p first second numbers arcs text i = record {
-  back = exchanged-back p first second;
-  valid = λ x. (exchanged-valid p first second x, exchanged-valid p second first (exchanged-back p first second x));
-  check = λ x v. good-too p first second x v ∙ ap Good (exchanged-image p first second x) ∙ sym (accepted p first second x v);
-  timing = λ x v. (timing-carried p first second x v numbers arcs, timing-carried p second first (exchanged-back p first second x) (exchanged-valid p first second x v) numbers arcs);
-  path = λ x v. (path-carried p first second x v numbers arcs i, path-carried p second first (exchanged-back p first second x) (exchanged-valid p first second x v) numbers arcs i);
-  report = λ x v. (report-carried p first second x v text, report-carried p second first (exchanged-back p first second x) (exchanged-valid p first second x v) text);
-}
+module _ (p : ℕ) (first second : List ℕ) where
+  -- what is carried over is carried back
+  either-way : (P : List ℕ → Type 0) → ((a b : List ℕ) → Exchanged p a b → Valid a → P a → P b) →
+      Exchanged p first second → Valid first → P first ↔ P second
+  either-way P carry x v = (carry first second x v, carry second first (exchanged-back p first second x) (exchanged-valid p first second x v))
+
+  pub phases-exchanged : (numbers : List ℤ) (arcs text : List ℕ) (i : ℕ) → PhasesExchanged p first second numbers arcs text i
+  phases-exchanged numbers arcs text i = record {
+    back = exchanged-back p first second;
+    valid = λ x. (exchanged-valid p first second x, exchanged-valid p second first (exchanged-back p first second x));
+    check = λ x v. good-too p first second x v ∙ ap Good (exchanged-image p first second x) ∙ sym (accepted p first second x v);
+    timing = either-way _ (λ a b x v. timing-carried p a b x v numbers arcs);
+    path = either-way _ (λ a b x v. path-carried p a b x v numbers arcs i);
+    report = either-way _ (λ a b x v. report-carried p a b x v text);
+  }

@@ -7,5 +7,6 @@ pub mod Computes
 pub mod Known
 pub mod Mistakes
 pub mod Narrower
+pub mod Exchanges
 pub mod Answered
 pub mod Texts

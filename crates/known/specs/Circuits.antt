@@ -48,6 +48,43 @@ p9 = laid 100
 unfoldable pub p10 : List ℕ
 p10 = laid 100 (phase 100 40 ∷ []) [] []
 
+-- two latches, each on one of two phases, and one arc: the phase of the one that it leaves, and of the one that it enters
+abbrev pub pair : ℕ → ℕ → List ℕ
+pair source target =
+    laid 100
+    (phase 100 50 ∷ phase 100 50 ∷ [])
+    (latch source 10 5 (5 to 5) ∷ latch target 10 5 (5 to 5) ∷ [])
+    (arc 0 1 (10 to 10) ∷ [])
+
+unfoldable pub p11 : List ℕ
+p11 = pair 0 1
+
+-- P11 with its two phases exchanged
+unfoldable pub p12 : List ℕ
+p12 = pair 1 0
+
+-- a phase that closes at 0 and one that closes at Tc
+unfoldable pub p13 : List ℕ
+p13 = laid 100
+    (phase 0 50 ∷ phase 100 50 ∷ [])
+    (latch 0 10 5 (5 to 5) ∷ latch 1 10 5 (5 to 5) ∷ [])
+    (arc 1 0 (10 to 20) ∷ arc 0 1 (20 to 60) ∷ [])
+
+-- three phases, of which the last two close together: their active lengths, and the numbers that they have
+abbrev pub three : List (List ℕ) → ℕ → ℕ → List ℕ
+three lasts second third =
+    laid 100
+    (phase 40 20 ∷ lasts)
+    (latch second 10 5 (5 to 10) ∷ latch third 10 5 (5 to 10) ∷ flipFlop 0 5 5 (8 to 8) ∷ [])
+    (arc 2 0 (20 to 40) ∷ arc 0 1 (30 to 90) ∷ arc 1 2 (10 to 20) ∷ [])
+
+unfoldable pub p14 : List ℕ
+p14 = three (phase 100 50 ∷ phase 100 30 ∷ []) 1 2
+
+-- P14 with these two exchanged
+unfoldable pub p15 : List ℕ
+p15 = three (phase 100 30 ∷ phase 100 50 ∷ []) 2 1
+
 pub data Outcome : Type 0 where
   -- the six results of each synchronizer, how many setups and how many holds are missed, the report
   timed : List ℤ → ℕ → ℕ → String → Outcome
@@ -64,6 +101,20 @@ pub record Known : Type 0 where
 
 abbrev pub minus : ℕ → ℤ
 minus n = negℤ (pos n)
+
+-- what P11 and P12 have, and what P14 and P15 have
+abbrev pub of-the-pair : Outcome
+of-the-pair = timed (
+    pos 50 ∷ pos 50 ∷ mark ∷ mark ∷ mark ∷ mark ∷
+    pos 50 ∷ pos 50 ∷ minus 35 ∷ minus 35 ∷ minus 40 ∷ pos 125 ∷ []) 0 1
+    "timed 2 0 1\n0 50 50 - - - -\n1 50 50 -35 -35 -40 125\n"
+
+abbrev pub of-the-three : Outcome
+of-the-three = timed (
+    pos 68 ∷ pos 88 ∷ pos 68 ∷ pos 88 ∷ pos 63 ∷ pos 2 ∷
+    pos 70 ∷ pos 88 ∷ pos 3 ∷ pos 88 ∷ minus 2 ∷ pos 2 ∷
+    pos 100 ∷ pos 100 ∷ pos 45 ∷ pos 78 ∷ pos 40 ∷ pos 17 ∷ []) 0 1
+    "timed 3 0 1\n0 68 88 68 88 63 2\n1 70 88 3 88 -2 2\n2 100 100 45 78 40 17\n"
 
 unfoldable pub known : List Known
 known =
@@ -128,4 +179,18 @@ known =
     } ∷
     record { number = 9; bytes = p9; outcome = path 2 0 (0 ∷ 1 ∷ []) } ∷
     record { number = 10; bytes = p10; outcome = timed [] 0 0 "timed 0 0 0\n" } ∷
+    record { number = 11; bytes = p11; outcome = of-the-pair } ∷
+    record { number = 12; bytes = p12; outcome = of-the-pair } ∷
+    record {
+      number = 13;
+      bytes = p13;
+      outcome = timed (
+          pos 50 ∷ pos 50 ∷ minus 35 ∷ minus 25 ∷ minus 40 ∷ pos 115 ∷
+          pos 50 ∷ pos 50 ∷ minus 25 ∷ pos 15 ∷ minus 30 ∷ pos 75 ∷ []) 0 2
+          "timed 2 0 2\n0 50 50 -35 -25 -40 115\n1 50 50 -25 15 -30 75\n";
+    } ∷
+    record { number = 14; bytes = p14; outcome = of-the-three } ∷
+    record { number = 15; bytes = p15; outcome = of-the-three } ∷
+    record { number = 14; bytes = p14; outcome = path 2 2 (0 ∷ 1 ∷ 2 ∷ []) } ∷
+    record { number = 15; bytes = p15; outcome = path 2 2 (0 ∷ 1 ∷ 2 ∷ []) } ∷
     []
