@@ -17,22 +17,22 @@ use Rattle.flow.proofs.Settles.{within-settles}
 use Rattle.flow.proofs.Rounds.{settled-least}
 use Rattle.flow.proofs.Windows.{departures-inside, arrivals-inside}
 use Rattle.circuit.specs.Circuit.{Circuit, circuitOf}
-use Rattle.circuit.specs.Clock.{shift, across, isLatch, opening, launch, delay, weight, flow}
+use Rattle.circuit.specs.Clock.{across, isLatch, opening, launch, delay, weight, flow}
 use Rattle.circuit.specs.Times.{Times, Calm, arrives, setupSlack, holdSlack, Met}
 use Rattle.circuit.specs.Narrows.{Stays, Narrows, Narrowed}
 use Rattle.circuit.proofs.Sound.{Sound, sound, good}
+use Rattle.circuit.proofs.Shifts.{shift-same}
 use Rattle.circuit.proofs.Solved.{early-late, early-late-arrivals}
 
 module _ (c d : Circuit) (v : Sound c) (w : Sound d) (n : Narrows c d) where
-  shift-same : (p q : ℕ) → p < c .phases → q < c .phases → shift d p q ≡ shift c p q
-  unfolding shift
-  shift-same p q l m = rw (n .closing p l, n .closing q m, n .cycle)
-
   across-same : (a b : ℕ) → Stays c b d a → across d a ≡ across c b
   across-same a b s =
       let l = v .from b (s .here) in
       let m = v .to b (s .here) in
-      rw (← s .from, ← s .to, n .phase (c .from b) l, n .phase (c .to b) m) (shift-same _ _ (v .phase _ l) (v .phase _ m))
+      let p = v .phase _ l in
+      let q = v .phase _ m in
+      rw (← s .from, ← s .to, n .phase (c .from b) l, n .phase (c .to b) m)
+      (shift-same c d v w (n .cycle) _ _ _ _ p q (rw (n .phases) p) (rw (n .phases) q) (n .closing _ p) (n .closing _ q))
 
   latch-same : (i : ℕ) → i < c .synchronizers → isLatch d i ≡ isLatch c i
   unfolding isLatch

@@ -5,16 +5,15 @@ use mathlib.Core.Bool.{Bool, true, false, cond}
 use Prim.Native.Nat.{ℕ, _+_, _≤_, _<_}
 use native.Mathlib.Nat.{le-refl}
 use native.Mathlib.Omega.{arith}
-use lib.Dec.{ltb}
 use lib.IntN.{ℤ, pos, negsuc, _-ℤ_}
 use lib.Signed.{_≤ℤ_, ≤ℤ-refl}
-use borrow.Author.Tests.{ltb-true, ltb-false, le-ltb}
 use Rattle.ticks.proofs.Ints.{ints, diff}
 use Rattle.flow.specs.Flow.{Side, late, early}
 use Rattle.flow.specs.inside.Within.{Within}
 use Rattle.circuit.specs.Circuit.{Circuit}
-use Rattle.circuit.specs.Clock.{shift, across, isLatch, opening, launch, delay, weight, flow}
+use Rattle.circuit.specs.Clock.{across, isLatch, opening, launch, delay, weight, flow}
 use Rattle.circuit.proofs.Sound.{Sound}
+use Rattle.circuit.proofs.Shifts.{shift-next}
 use Rattle.circuit.proofs.RulesInWords.{delay-between}
 
 -- 0 ≤ z ≤ n
@@ -26,28 +25,11 @@ between-cond : (t : Bool) {x y : ℤ} {n : ℕ} → Between x n → Between y n 
 between-cond true h k = h
 between-cond false h k = k
 
-pub shift-self : (c : Circuit) (p : ℕ) → shift c p p ≡ pos (c .cycle)
-unfolding shift
-shift-self c p = rw (le-ltb p p (omega arith)) (omega (ints, diff (pos (c .cycle + c .closing p)) (pos (c .closing p))))
-
 module _ (c : Circuit) (v : Sound c) where
-  pub shift-range : (p q : ℕ) → p < c .phases → q < c .phases → Between (shift c p q) (c .cycle)
-  unfolding shift
-  shift-range p q l m = go (ltb p q) refl
-    where
-      go : (t : Bool) → ltb p q ≡ t →
-          Between (cond t (pos (c .closing q) -ℤ pos (c .closing p)) (pos (c .cycle + c .closing q) -ℤ pos (c .closing p))) (c .cycle)
-      go true e = let h = v .rising p q (omega (arith, ltb-true p q e)) m in let k = v .closing q m in record {
-        low = omega (ints, diff (pos (c .closing q)) (pos (c .closing p)));
-        high = omega (ints, diff (pos (c .closing q)) (pos (c .closing p)));
-      }
-      go false e = let h = v .rising q p (omega (arith, ltb-false p q e)) l in let k = v .closing p l in record {
-        low = omega (ints, diff (pos (c .cycle + c .closing q)) (pos (c .closing p)));
-        high = omega (ints, diff (pos (c .cycle + c .closing q)) (pos (c .closing p)));
-      }
-
+  -- a shift is 1 to Tc
   pub across-range : (a : ℕ) → a < c .arcs → Between (across c a) (c .cycle)
-  across-range a l = shift-range _ _ (v .phase _ (v .from a l)) (v .phase _ (v .to a l))
+  across-range a l = let h = shift-next c v _ _ (v .phase _ (v .from a l)) (v .phase _ (v .to a l)) in
+      record { low = omega (ints, h .some); high = h .most }
 
   pub opening-range : (i : ℕ) → i < c .synchronizers → Between (opening c i) (c .cycle)
   unfolding opening

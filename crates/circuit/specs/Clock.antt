@@ -6,9 +6,18 @@ use lib.IntN.{ℤ, pos, _-ℤ_}
 use Rattle.flow.specs.Flow.{Flow, Side, late, early}
 use Rattle.circuit.specs.Circuit.{Circuit}
 
--- the shift from phase p to phase q (docs/RULES.md, "The equations"). A phase to itself gives Tc
+-- the tick of the cycle at which a phase closes. Tc is tick 0 of the next cycle
+unfoldable pub tick : Circuit → ℕ → ℕ
+tick c p = cond (eqb (c .closing p) (c .cycle)) 0 (c .closing p)
+
+-- phases close together where they close at one tick: so a phase closing at 0 closes together with one closing at Tc
+unfoldable pub together : Circuit → ℕ → ℕ → Bool
+together c p q = eqb (tick c p) (tick c q)
+
+-- the shift from phase p to phase q (docs/RULES.md, "The equations"). Between phases that close together it is Tc, and so from a phase to itself
 unfoldable pub shift : Circuit → ℕ → ℕ → ℤ
-shift c p q = cond (ltb p q) (pos (c .closing q) -ℤ pos (c .closing p)) (pos (c .cycle + c .closing q) -ℤ pos (c .closing p))
+shift c p q = cond (together c p q) (pos (c .cycle))
+    (cond (ltb p q) (pos (c .closing q) -ℤ pos (c .closing p)) (pos (c .cycle + c .closing q) -ℤ pos (c .closing p)))
 
 -- the shift along an arc
 abbrev pub across : Circuit → ℕ → ℤ

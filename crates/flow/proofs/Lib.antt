@@ -20,3 +20,4 @@ pub mod Parents
 pub mod Path
 pub mod HasPath
 pub mod SamePath
+pub mod SameRings

@@ -15,9 +15,9 @@ use Rattle.circuit.specs.Circuit.{Circuit, circuitOf}
 use Rattle.circuit.specs.Clock.{shift, across, delay, weight}
 use Rattle.circuit.proofs.Sound.{sound}
 use Rattle.circuit.proofs.Ranges.{across-range}
-use Rattle.timing.specs.inside.Loaded.{Noted, LeadOf, LoadedArc}
+use Rattle.timing.specs.inside.Loaded.{Noted, shiftOf, LeadOf, LoadedArc}
 use Rattle.timing.proofs.RecordsRead.{OfArc, counts, of-arc, most-phases}
-use Rattle.timing.proofs.Shifts.{Shifting, shifting}
+use Rattle.timing.proofs.Shifts.{shifted}
 use Rattle.tables.specs.inside.Sizes.{NODES, PHASES}
 
 -- a delay with the cycle added and the shift x taken away
@@ -29,12 +29,11 @@ leads s c a d x e h k w q = record {
   small = omega arith;
 }
 
--- what is known once an arc is read: it leads from p to q, which close at x and y, and no sum is large
-pub record Ends (c : Circuit) (cycle : ℕ) (r : Arc) (p q x y low high : ℕ) : Type 0 where
+-- what is known once an arc is read: it leads from p to q, and no sum is large
+pub record Ends (r : Arc) (p q low high : ℕ) : Type 0 where
   pub from : r .from < NODES
   pub to : r .to < NODES
   pub phases : (p < PHASES) × (q < PHASES)
-  pub shifts : Shifting c cycle p q x y
   pub late : high + r .greatest ≤ 2000000000
   pub early : low + r .least ≤ 2000000000
 
@@ -65,8 +64,7 @@ module _ {bytes : List ℕ} (v : Valid bytes) {image : Image} (same : image ≡ 
   greatest-is : getD greatests (r .from) 0 ≡ circuitOf bytes .greatest (circuitOf bytes .from a)
   greatest-is = rw (arc-is .from) (n .greatest .holds (circuitOf bytes .from a) leaves)
 
-  pub ends-known : Ends (circuitOf bytes) (image .cycle) r (getD phases (r .from) 0) (getD phases (r .to) 0)
-      (getD closings (getD phases (r .from) 0) 0) (getD closings (getD phases (r .to) 0) 0) (getD leasts (r .from) 0) (getD greatests (r .from) 0)
+  pub ends-known : Ends r (getD phases (r .from) 0) (getD phases (r .to) 0) (getD leasts (r .from) 0) (getD greatests (r .from) 0)
   ends-known =
       let c = sound bytes v in
       let p = c .phase _ leaves in
@@ -76,7 +74,6 @@ module _ {bytes : List ℕ} (v : Valid bytes) {image : Image} (same : image ≡ 
         from = omega (arith, arc-is .from, leaves, c .synchronizers);
         to = omega (arith, arc-is .to, enters, c .synchronizers);
         phases = (omega (arith, left-is, p, most-phases bytes v), omega (arith, entered-is, q, most-phases bytes v));
-        shifts = rw (left-is, entered-is, n .closing .holds _ p, n .closing .holds _ q, counts bytes image same .cycle) (shifting (circuitOf bytes) c _ _ p q);
         late = omega (arith, greatest-is, arc-is .greatest);
         early = omega (arith, least-is, arc-is .least, c .least _ leaves, c .shortest a here);
       }
@@ -84,9 +81,14 @@ module _ {bytes : List ℕ} (v : Valid bytes) {image : Image} (same : image ≡ 
   pub target-known : r .to ≡ circuitOf bytes .to a
   target-known = arc-is .to
 
-  module _ {x : ℕ} (shifts : pos x ≡ shift (circuitOf bytes) (getD phases (r .from) 0) (getD phases (r .to) 0)) where
+  -- x is worked out from when the two phases close
+  module _ {x : ℕ} (worked : x ≡ shiftOf (image .cycle) (getD closings (getD phases (r .from) 0) 0) (getD closings (getD phases (r .to) 0) 0)) where
     shift-is : pos x ≡ across (circuitOf bytes) a
-    shift-is = rw (left-is, entered-is) at shifts
+    shift-is =
+        let c = sound bytes v in
+        let p = c .phase _ leaves in
+        let q = c .phase _ enters in
+        rw (worked, left-is, entered-is, n .closing .holds _ p, n .closing .holds _ q, counts bytes image same .cycle) (shifted (circuitOf bytes) c _ _ p q)
 
     pub back-known : (x ≤ image .cycle) × (image .cycle ≤ 1000000000)
     back-known =

@@ -1,39 +1,71 @@
--- The shift between two phases, worked out in natural numbers of 32 bits from when the phases close.
-use mathlib.Core.Path.{_≡_}
+-- The shift that loading works out, from when two phases close, is the circuit's: it too leads to the next close, and only one number does.
+use mathlib.Core.Path.{_≡_, refl}
+use mathlib.Core.Bool.{Bool, true, false, cond}
+use mathlib.Core.Logic.{_⊎_, inl, inr}
 use Prim.Native.Nat.{ℕ, _+_, _-_, _≤_, _<_}
-use native.Mathlib.Decide.{decLt}
+use native.Mathlib.Omega.{arith}
+use lib.Dec.{ltb}
 use lib.IntN.{pos}
-use borrow.Author.Tests.{lt-ltb, le-ltb}
+use borrow.Author.Tests.{ltb-true, ltb-false}
 use Rattle.ticks.proofs.Ints.{ints, diff}
 use Rattle.circuit.specs.Circuit.{Circuit}
-use Rattle.circuit.specs.Clock.{shift}
+use Rattle.circuit.specs.Clock.{tick, shift}
 use Rattle.circuit.proofs.Sound.{Sound}
-
--- from a phase to a later one, and to the same phase or an earlier one; x and y are when they close
-pub record Shifting (c : Circuit) (cycle p q x y : ℕ) : Type 0 where
-  pub on : p < q → (x ≤ y) × (pos (y - x) ≡ shift c p q)
-  pub round : q ≤ p → (cycle + y < 4294967296) × (x ≤ cycle + y) × (pos (cycle + y - x) ≡ shift c p q)
+use Rattle.circuit.proofs.Shifts.{NextClose, next-one, Ticks, ticks, shift-next}
+use Rattle.timing.specs.inside.Loaded.{shiftOf}
 
 module _ (c : Circuit) (v : Sound c) (p q : ℕ) (l : p < c .phases) (m : q < c .phases) where
-  pub shifting : Shifting c (c .cycle) p q (c .closing p) (c .closing q)
-  unfolding shift
-  shifting =
-      let n = v .cycle in
-      let x = v .closing p l in
-      let y = v .closing q m in record {
-        on = λ h. let r = v .rising p q (omega ints) m in
-            (r, rw (lt-ltb p q h) (omega (ints, diff (pos (c .closing q)) (pos (c .closing p)))));
-        round = λ h. (
-          omega ints,
-          omega ints,
-          rw (le-ltb p q h) (omega (ints, diff (pos (c .cycle + c .closing q)) (pos (c .closing p)))),
-        );
-      }
+  abbrev Next : ℕ → Type 0
+  Next r = NextClose (c .cycle) (tick c p) (tick c q) (pos r)
 
--- a number that is worked out in this way
-pub shifted : {c : Circuit} {cycle p q x y r : ℕ} → Shifting c cycle p q x y → (p < q → r ≡ y - x) × (q ≤ p → r ≡ cycle + y - x) →
-    pos r ≡ shift c p q
-shifted {c} {cycle} {p} {q} s h = elim (decLt p q) [
-  | yes l ↦ rw (h .0 l) (s .on l .1)
-  | no k ↦ (let l : q ≤ p = omega ints in rw (h .1 l) (s .round l .2))
-]
+  -- from a close to a later one, and to the same or an earlier one
+  on : c .closing p < c .closing q → Ticks c p → Ticks c q → Next (c .closing q - c .closing p)
+  on h (inl x) y = let k = v .closing q m in let z : ⊥ = omega arith in absurd z
+  on h (inr x) (inl y) = record {
+    some = omega ints;
+    most = omega ints;
+    lands = inr (omega (ints, diff (pos (c .cycle + tick c q)) (pos (tick c p))));
+  }
+  on h (inr x) (inr y) = record {
+    some = omega ints;
+    most = omega ints;
+    lands = inl (omega (ints, diff (pos (tick c q)) (pos (tick c p))));
+  }
+
+  round : c .closing q ≤ c .closing p → c .closing p - c .closing q < c .cycle → Ticks c p → Ticks c q →
+      Next (c .cycle - (c .closing p - c .closing q))
+  round h k (inl x) (inl y) = record {
+    some = omega ints;
+    most = omega ints;
+    lands = inr (omega (ints, diff (pos (c .cycle + tick c q)) (pos (tick c p))));
+  }
+  round h k (inl x) (inr y) = record {
+    some = omega ints;
+    most = omega ints;
+    lands = inl (omega (ints, diff (pos (tick c q)) (pos (tick c p))));
+  }
+  round h k (inr x) (inl y) = let z : ⊥ = omega arith in absurd z
+  round h k (inr x) (inr y) = record {
+    some = omega ints;
+    most = omega ints;
+    lands = inr (omega (ints, diff (pos (c .cycle + tick c q)) (pos (tick c p))));
+  }
+
+  whole : c .closing q ≤ c .closing p → c .cycle ≤ c .closing p - c .closing q → Ticks c p → Ticks c q → Next (c .cycle)
+  whole h k (inl x) (inr y) = record {
+    some = omega (ints, v .some-cycle);
+    most = omega ints;
+    lands = inr (omega (ints, diff (pos (c .cycle + tick c q)) (pos (tick c p))));
+  }
+  whole h k (inl x) (inl y) = let n = v .some-cycle in let z : ⊥ = omega arith in absurd z
+  whole h k (inr x) y = let z : ⊥ = omega arith in absurd z
+
+  worked : (b : Bool) → ltb (c .closing p) (c .closing q) ≡ b → (t : Bool) → ltb (c .closing p - c .closing q) (c .cycle) ≡ t →
+      Next (cond b (c .closing q - c .closing p) (cond t (c .cycle - (c .closing p - c .closing q)) (c .cycle)))
+  worked true e t f = on (ltb-true _ _ e) (ticks c v p l) (ticks c v q m)
+  worked false e true f = round (ltb-false _ _ e) (ltb-true _ _ f) (ticks c v p l) (ticks c v q m)
+  worked false e false f = whole (ltb-false _ _ e) (ltb-false _ _ f) (ticks c v p l) (ticks c v q m)
+
+  pub shifted : pos (shiftOf (c .cycle) (c .closing p) (c .closing q)) ≡ shift c p q
+  unfolding shiftOf
+  shifted = next-one (worked _ refl _ refl) (shift-next c v p q l m)

@@ -5,7 +5,7 @@ ghost use lib.ListN.{length};
 ghost use Rattle.image.specs.Valid.{Valid, imageIn};
 ghost use Rattle.circuit.specs.Circuit.{Circuit, circuitOf};
 ghost use Rattle.tables.specs.inside.Filled.{Filled};
-ghost use Rattle.timing.specs.inside.Loaded.{Launched, Noted, LoadedArc, Spread, LoadedNodes, LoadedArcs, LoadedFirst, Sized, Loaded};
+ghost use Rattle.timing.specs.inside.Loaded.{Launched, Noted, shiftOf, LoadedArc, Spread, LoadedNodes, LoadedArcs, LoadedFirst, Sized, Loaded};
 ghost use Rattle.tables.specs.inside.Sizes.{ARCS, FIRSTS, NODES, PHASES};
 use crate::arrive::narrow;
 use crate::signed::RAISE;
@@ -123,12 +123,17 @@ fn load_nodes(
     }
 }
 
-// The shift (docs/RULES.md, "The equations") from phase p, which closes at x, to phase q, which closes at y.
-fn shift(cycle: u32, p: u8, q: u8, x: u32, y: u32) -> u32
-    requires { ⌜ (p < q → x ≤ y) × (q ≤ p → (x ≤ cycle + y) × (cycle + y < 4294967296)) ⌝ }
-    ensures { λ r. ⌜ (p < q → r ≡ y - x) × (q ≤ p → r ≡ cycle + y - x) ⌝ }
+// The shift (docs/RULES.md, "The equations") from a phase that closes at x to one that closes at y. It is told by when they close: the numbers of
+// the phases are not asked.
+fn shift(cycle: u32, x: u32, y: u32) -> u32
+    ensures { λ r. ⌜ r ≡ shiftOf cycle x y ⌝ }
 {
-    if p < q { y - x } else { cycle + y - x }
+    if x < y {
+        y - x
+    } else {
+        let back = x - y;
+        if back < cycle { cycle - back } else { cycle }
+    }
 }
 
 // An arc's leads: delay + cycle - shift, which is never below zero, as no shift exceeds the cycle.
@@ -156,7 +161,7 @@ fn led(
     let p = phase[from];
     let q = phase[to];
     let cycle = image.cycle;
-    let back = cycle - shift(cycle, p, q, closing[p as usize], closing[q as usize]);
+    let back = cycle - shift(cycle, closing[p as usize], closing[q as usize]);
     Lead {
         source: narrow(from),
         target: to,

@@ -1,8 +1,9 @@
 -- What the loaded tables hold of a circuit, and what is loaded at each step. A table is a list, and reads 0 past its end.
 use mathlib.Core.Path.{_≡_}
 use mathlib.Core.List.{List}
-use Prim.Native.Nat.{ℕ, _+_, _≤_, _<_}
-use lib.Dec.{eqb}
+use mathlib.Core.Bool.{cond}
+use Prim.Native.Nat.{ℕ, _+_, _-_, _≤_, _<_}
+use lib.Dec.{ltb, eqb}
 use lib.IntN.{subℕ}
 use lib.ListN.{length, getD}
 use Rattle.ticks.specs.inside.Raised.{RAISE, lower}
@@ -33,6 +34,11 @@ pub record Noted (c : Circuit) (closings phases leasts greatests : List ℕ) : T
   pub phase : Filled NODES (c .phase) phases (c .synchronizers)
   pub least : Filled NODES (c .least) leasts (c .synchronizers)
   pub greatest : Filled NODES (c .greatest) greatests (c .synchronizers)
+
+-- the shift from a phase that closes at x to one that closes at y, in numbers that are never below zero. For the phases of a sound circuit it is the
+-- circuit's (`shifted`, proofs/Shifts)
+unfoldable pub shiftOf : ℕ → ℕ → ℕ → ℕ
+shiftOf cycle x y = cond (ltb x y) (y - x) (cond (ltb (x - y) cycle) (cycle - (x - y)) cycle)
 
 -- an arc's weight, late or early, with a cycle added
 pub record LeadOf (s : Side) (c : Circuit) (a lead : ℕ) : Type 0 where

@@ -1,28 +1,16 @@
 -- `led` gives an arc's ends and its two leads: no sum leaves 32 bits, and no shift exceeds the cycle.
-use Prim.Native.Nat.{ℕ, _≤_}
+use Prim.Native.Nat.{_≤_}
 use native.Mathlib.Omega.{arith}
 use lib.ListN.{getD}
 use borrow.Author.Needs.{needs}
-use Rattle.circuit.specs.Circuit.{circuitOf}
-use Rattle.timing.proofs.Shifts.{shifted}
 use Rattle.timing.proofs.Leading.{Ends, ends-known, target-known, back-known, led-known}
 use Rattle.timing.proofs.load.led.Statement.{statement}
 use Rattle.timing.proofs.load.led.Tie as tie
 
--- of the arc's two ends: their phases, when these close, and the delays of the one that it leaves
-abbrev left : tie.After-of → ℕ
-left c = getD (c .before .before .args .phase .now) (c .of .result .from) 0
-
-abbrev entered : tie.After-of → ℕ
-entered c = getD (c .before .before .args .phase .now) (c .of .result .to) 0
-
-abbrev closes : tie.After-of → ℕ → ℕ
-closes c p = getD (c .before .before .args .closing .now) p 0
-
+-- the phases of the arc's two ends, and the delays of the one that it leaves
 ends : (c : tie.After-of) →
-    Ends (circuitOf (c .before .before .args .bytes .now)) (c .before .before .args .image .cycle) (c .of .result) (left c) (entered c)
-    (closes c (left c)) (closes c (entered c)) (getD (c .before .before .args .least .now) (c .of .result .from) 0)
-    (getD (c .before .before .args .greatest .now) (c .of .result .from) 0)
+    Ends (c .of .result) (getD (c .before .before .args .phase .now) (c .of .result .from) 0) (getD (c .before .before .args .phase .now) (c .of .result .to) 0)
+    (getD (c .before .before .args .least .now) (c .of .result .from) 0) (getD (c .before .before .args .greatest .now) (c .of .result .from) 0)
 ends c = let e = c .before .before .pre in ends-known (e .0) (e .1 .0) (e .1 .1 .0) (c .of .ensures) (e .1 .1 .1)
 
 -- once the shift is known
@@ -32,7 +20,7 @@ read c = c .before .before .before .before .before .before .before
 back : (c : tie.After-shift) → let cycle = read c .before .before .args .image .cycle in (c .shift .result ≤ cycle) × (cycle ≤ 1000000000)
 back c =
     let e = read c .before .before .pre in
-    back-known (e .0) (e .1 .0) (e .1 .1 .0) (read c .of .ensures) (e .1 .1 .1) (shifted (ends (read c) .shifts) (c .shift .ensures))
+    back-known (e .0) (e .1 .0) (e .1 .1 .0) (read c .of .ensures) (e .1 .1 .1) (c .shift .ensures)
 
 cast-from : tie.Need-cast-from
 cast-from c = omega (arith, ends (c .before) .from)
@@ -63,9 +51,6 @@ mul-shift-2 c = omega (arith, ends (c .before .before .before .before .before) .
 
 element-copy-out-shift-2 : tie.Need-element-copy-out-shift-2
 element-copy-out-shift-2 c = omega (arith, ends (c .before .before .before .before .before) .phases .1)
-
-shift-requires : tie.Need-shift-requires
-shift-requires c κs = let s = ends (c .before .before .before .before .before .before) .shifts in (λ l. s .on l .0, λ l. (s .round l .1, s .round l .0))
 
 sub-back : tie.Need-sub-back
 sub-back c = back c .0
@@ -101,14 +86,14 @@ returns : tie.Need-returns
 returns c =
     let shift = c .before .before .before .before .before in
     let k = read shift in
-    let e = k .before .before .pre in
-    let s = shifted (ends k .shifts) (shift .shift .ensures) in (
-      rw (c .before .before .before .before .narrow .ensures) (led-known (e .0) (e .1 .0) (e .1 .1 .0) (k .of .ensures) (e .1 .1 .1) s),
+    let e = k .before .before .pre in (
+      rw (c .before .before .before .before .narrow .ensures)
+      (led-known (e .0) (e .1 .0) (e .1 .1 .0) (k .of .ensures) (e .1 .1 .1) (shift .shift .ensures)),
       target-known (e .0) (e .1 .0) (e .1 .1 .0) (k .of .ensures) (e .1 .1 .1),
     )
 
 pub led-spec : {M : Type 1} → statement M
 led-spec = tie.close (tie.spec
     (λ c κs. search needs) cast-from cast-to element-copy-out-p element-copy-out-q cast-shift mul-shift element-copy-out-shift cast-shift-2
-    mul-shift-2 element-copy-out-shift-2 shift-requires sub-back narrow-requires mul-t21 element-copy-out-t20 add-t30 add-t25 mul-t27
+    mul-shift-2 element-copy-out-shift-2 (λ c κs. tt) sub-back narrow-requires mul-t21 element-copy-out-t20 add-t30 add-t25 mul-t27
     element-copy-out-t36 add-t37 add-t38 returns)

@@ -1,23 +1,27 @@
--- `shift` takes one of the shift's two differences, each of which is no less than zero.
-use mathlib.Core.Path.{refl}
+-- `shift` takes the branches of `shiftOf`; no difference is below zero.
 use native.Mathlib.Omega.{arith}
+use borrow.Author.Tests.{lt-ltb, le-ltb}
+use Rattle.timing.specs.inside.Loaded.{shiftOf}
 use Rattle.timing.proofs.load.shift.Statement.{statement}
 use Rattle.timing.proofs.load.shift.Tie as tie
 
 sub-result : tie.Need-sub-result
-sub-result c = c .before .pre .0 (c .if1 .taken)
-
-add-result : tie.Need-add-result
-add-result c = omega (arith, c .before .pre .1 (c .if1 .left) .1)
+sub-result c = omega (arith, c .if1 .taken)
 
 sub-result-2 : tie.Need-sub-result-2
-sub-result-2 c = c .before .pre .1 (c .if1 .left) .0
+sub-result-2 c = omega (arith, c .if2 .taken)
 
 returns : tie.Need-returns
-returns c = (λ l. refl, λ l. let z : ⊥ = omega (arith, l, c .if1 .taken) in absurd z)
+unfolding shiftOf
+returns c = rw (lt-ltb (c .before .args .x) (c .before .args .y) (c .if1 .taken))
 
 returns-2 : tie.Need-returns-2
-returns-2 c = (λ l. let z : ⊥ = omega (arith, l, c .if1 .left) in absurd z, λ l. refl)
+unfolding shiftOf
+returns-2 c = let a = c .before .before .args in rw (le-ltb (a .x) (a .y) (c .before .if1 .left), lt-ltb _ (a .cycle) (c .if2 .taken))
+
+returns-3 : tie.Need-returns-3
+unfolding shiftOf
+returns-3 c = let a = c .before .before .args in rw (le-ltb (a .x) (a .y) (c .before .if1 .left), le-ltb _ (a .cycle) (c .if2 .left))
 
 pub shift-spec : {M : Type 1} → statement M
-shift-spec = tie.close (tie.spec sub-result add-result sub-result-2 returns returns-2)
+shift-spec = tie.close (tie.spec sub-result sub-result-2 returns returns-2 returns-3)
