@@ -252,10 +252,10 @@ fn start(random: &mut Random, size: Size, flip_flops: u32) -> Start {
 /// phases close together.
 fn closings(random: &mut Random, cycle: u32, k: u32) -> Vec<u32> {
     let any = |random: &mut Random| random.between(0, cycle);
-    let times = match random.between(0, 3) {
-        0 => (0..k).map(|_| any(random)).collect(),
-        1 => vec![0, any(random), any(random), cycle],
-        2 => vec![0, cycle],
+    let times = match random.between(0, 4) {
+        0 | 1 => (0..k).map(|_| any(random)).collect(),
+        2 => vec![0, any(random), any(random), cycle],
+        3 => vec![0, cycle],
         _ => vec![cycle],
     };
     let mut closings: Vec<u32> = (1..k).map(|_| random.pick(&times)).collect();
