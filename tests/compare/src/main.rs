@@ -655,9 +655,8 @@ fn compare(seed: u64, percent: u64, turn: Turn) -> Result<Comparison, String> {
         let good = known::all().into_iter().chain(images::at_limits()).filter(|(_, image)| independent::check(image).is_ok());
         let pairs = good.map(|(name, image)| (name, Plan::of(&image))).filter(|(_, plan)| !plan.equal_neighbours().is_empty());
         for (name, plan) in turn.pick(pairs) {
-            for phase in plan.equal_neighbours() {
-                told(c.exchange(&plan, phase), name, 0, &[&plan.image()])?;
-            }
+            let phase = c.random.pick(&plan.equal_neighbours());
+            told(c.exchange(&plan, phase), name, 0, &[&plan.image()])?;
         }
         for number in turn.below(share(2_000)) {
             let seed = seed_of(seed, "phases exchanged", number);
