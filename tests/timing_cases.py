@@ -573,7 +573,8 @@ def refusals():
 
 
 def main():
-    for kind in (known, small, chains, rings, rings_closing_together, two_rings, broken_rings, self_arcs, woven_kinds, dense, by_luck, extremes, ties, full, refusals):
+    kinds = [known, small, chains, rings, rings_closing_together, two_rings, broken_rings, self_arcs, woven_kinds, dense, by_luck, extremes]
+    for kind in kinds + [ties, full, refusals]:
         kind()
     folder = ROOT / "crates" / "timing_cases"
     wanted = {folder / "stdin": b"".join(f for _, f, _ in FRAMES), folder / "stdout": b"".join(t for _, _, t in FRAMES)}

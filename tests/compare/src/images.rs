@@ -248,8 +248,8 @@ fn start(random: &mut Random, size: Size, flip_flops: u32) -> Start {
     Start { plan: Plan { cycle, phases, synchronizers, arcs: Vec::new() }, arcs: arcs as usize, longest }
 }
 
-/// Closing times that rise to the cycle: any; any of four, with 0 and the cycle among them; 0 and the cycle alone; or the cycle alone. So many
-/// phases close together.
+/// Closing times that rise to the cycle: any; any of four, with 0 and the cycle among them; 0 and the cycle alone; or the cycle
+/// alone. So many phases close together.
 fn closings(random: &mut Random, cycle: u32, k: u32) -> Vec<u32> {
     let any = |random: &mut Random| random.between(0, cycle);
     let times = match random.between(0, 4) {

@@ -1,4 +1,5 @@
-//! P1 to P15, with the numbers that were given with the rules, and those of P11 to P15 worked out by hand. None was taken from a program's output.
+//! P1 to P15, with the numbers that were given with the rules; those of P11 to P15 were worked out by hand. None was taken from a
+//! program's output.
 #![forbid(unsafe_code)]
 
 use crate::images::Plan;
@@ -63,13 +64,13 @@ pub fn p10() -> Vec<u8> {
     Plan { cycle: 100, phases: vec![[100, 40]], synchronizers: vec![], arcs: vec![] }.image()
 }
 
-/// Latches on two phases, which each have a latch: the phases of latch 0 and latch 1.
+/// Two phases that close together, and two latches, with the phase of each.
 fn two_latches(phases: [[u32; 2]; 2], on: [u32; 2], arcs: &[[u32; 4]]) -> Vec<u8> {
     Plan { cycle: 100, phases: phases.to_vec(), synchronizers: on.map(|phase| [phase, 0, 10, 5, 5, 5]).to_vec(), arcs: arcs.to_vec() }
         .image()
 }
 
-/// Two latches on phases that close together, and a flip-flop on phase 0.
+/// The same behind a phase 0, which a flip-flop is on.
 fn three_around(phases: [[u32; 2]; 2], on: [u32; 2]) -> Vec<u8> {
     Plan {
         cycle: 100,

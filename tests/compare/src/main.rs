@@ -350,8 +350,8 @@ impl Comparison {
         Ok(Answers { check: self.library.check(image)?, timing, results, arcs: ring, paths, report })
     }
 
-    /// A good image, and the same with a phase and the next one exchanged, which close at one time: the library must answer the same of both, and
-    /// leave the same in the buffers. Only a growing ring may be another. Before, both are compared as all images are, so rings are judged.
+    /// A circuit, and the same with a phase and the next one exchanged, which close at one time: the library must answer the same of
+    /// both, and leave the same in the buffers. Only a growing ring may be another. Before that each is compared as all images are.
     fn exchange(&mut self, plan: &Plan, phase: u32) -> Result<Option<Expect>, String> {
         let images = [plan.image(), plan.exchanged(phase).image()];
         let found = self.image(&images[0])?;
@@ -654,9 +654,10 @@ fn compare(seed: u64, percent: u64, turn: Turn) -> Result<Comparison, String> {
     part(c, "phases exchanged", |c| {
         let good = known::all().into_iter().chain(images::at_limits()).filter(|(_, image)| independent::check(image).is_ok());
         let pairs = good.map(|(name, image)| (name, Plan::of(&image))).filter(|(_, plan)| !plan.equal_neighbours().is_empty());
+        c.random = Random::new(seed);
         for (name, plan) in turn.pick(pairs) {
             let phase = c.random.pick(&plan.equal_neighbours());
-            told(c.exchange(&plan, phase), name, 0, &[&plan.image()])?;
+            told(c.exchange(&plan, phase), name, 0, &[&plan.image(), &plan.exchanged(phase).image()])?;
         }
         for number in turn.below(share(2_000)) {
             let seed = seed_of(seed, "phases exchanged", number);
@@ -672,7 +673,7 @@ fn compare(seed: u64, percent: u64, turn: Turn) -> Result<Comparison, String> {
             };
             let phase = c.random.pick(&phases);
             let outcome = c.exchange(&plan, phase).and_then(|found| as_known(found, expect));
-            told(outcome, "phases exchanged", seed, &[&plan.image()])?;
+            told(outcome, "phases exchanged", seed, &[&plan.image(), &plan.exchanged(phase).image()])?;
         }
         Ok(())
     })?;
@@ -787,15 +788,15 @@ fn table(comparison: &Comparison, least: u64) -> Result<(), String> {
     }
 }
 
-/// Prints what came of phases that close together. Where one process does all, none of it may be missing, whatever the share; the script `run` asks
-/// that of several processes.
+/// Prints what came of phases that close together. Where one process does all, none of it may be missing, whatever the share; of
+/// several processes the script `run` asks that.
 fn together(comparison: &Comparison, all: bool) -> Result<(), String> {
     let count = |call, kind: &str| comparison.seen.get(&(call, kind.to_string())).copied().unwrap_or(0);
     let (images, at_ends) = (count("circuit", TOGETHER), count("circuit", AT_ENDS));
     let [pairs, between, growing] = [PAIRS, BETWEEN, GROWING].map(|kind| count("exchanged", kind));
     println!(
-        "together: {images} images with an arc between different phases that close together, {at_ends} of them between the two ends of the cycle; \
-         {pairs} pairs of such phases exchanged, {between} {BETWEEN}, {growing} {GROWING}, {} of these with the same ring",
+        "together: {images} images with an arc between different phases that close together, {at_ends} of them between the two ends \
+         of the cycle; {pairs} pairs of such phases exchanged, {between} {BETWEEN}, {growing} {GROWING}, {} of these with the same ring",
         comparison.same_rings
     );
     if all && [images, at_ends, pairs].contains(&0) {
