@@ -5,6 +5,7 @@ pub mod Shifts
 pub mod Ranges
 pub mod Solved
 pub mod Unique
+pub mod Exchange
 pub mod Sizes
 pub mod Narrowing
 pub mod Changes

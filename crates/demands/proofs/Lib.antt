@@ -11,3 +11,4 @@ pub mod Refusals
 pub mod Demands
 pub mod ForC
 pub mod TextToImage
+pub mod Exchange

@@ -1,4 +1,5 @@
 -- What was asked for since, each request a record, each sentence a field. Like the demands they speak of the calls alone.
+-- `Timing`, `PathCall` and `Report` are the promises that the demands read (Demands.antt).
 -- `TextCall text before X after` is the promise of the call that makes an image from a text: lent a buffer that holds `before`, it may answer X
 -- and leave `after` in it. The grammar is grammar's: `Reads text lines` says that the text is those lines, `Fault text n` that line n is the
 -- lowest at fault.
@@ -6,6 +7,7 @@ use mathlib.Core.Path.{_≡_}
 use mathlib.Core.List.{List, [], _∷_, _++_}
 use mathlib.Core.Logic.{_⊎_, _↔_}
 use Prim.Native.Nat.{ℕ, _<_, _≤_}
+use lib.IntN.{ℤ}
 use lib.ListN.{length, getD, take, drop}
 use Rattle.image.specs.Checks.{checkOf}
 use Rattle.image.specs.Valid.{Valid}
@@ -19,6 +21,12 @@ use Rattle.grammar.specs.Text.{Reads, Fault}
 use Rattle.grammar.specs.Layout.{cycleOf, phasesOf, synchronizersOf, arcsOf, imageFrom}
 use Rattle.grammar.specs.declared.read.Line.{Line}
 use Rattle.circuit.specs.Circuit.{Circuit, circuitOf}
+use Rattle.circuit.specs.Exchange.{Exchanged}
+use Rattle.timing.specs.TimingPromise.{Timing}
+use Rattle.timing.specs.PathPromise.{PathCall}
+use Rattle.timing.specs.declared.timing_call.Answer.{Answer}
+use Rattle.timing.specs.declared.path_call.Way.{Way}
+use Rattle.report.specs.Promise.{Report}
 use Rattle.text.specs.TextPromise.{TextCall}
 use Rattle.text.specs.declared.text_call.Made.{Made}
 use Rattle.text.specs.declared.text_call.Made.the-variants as answer
@@ -83,3 +91,18 @@ pub record TextToImage (text before : List ℕ) : Type 0 where
   pub keeps : {rule culprit : ℕ} {after : List ℕ} → TextCall text before (answer.Refused rule culprit) after → after ≡ before
   -- where it writes, the image carries what the text says
   pub wrote : {n : ℕ} {after : List ℕ} → TextCall text before (answer.Image n) after → Wrote text before n after
+
+-- Phases that close together act as one: two neighbouring phases are exchanged that close at the same time, and the phases of the synchronizers are
+-- renumbered to suit. Buffers and the synchronizer i asked about are any at all
+pub record PhasesExchanged (p : ℕ) (first second : List ℕ) (numbers : List ℤ) (arcs text : List ℕ) (i : ℕ) : Type 0 where
+  -- exchanged once more, the second is the first
+  pub back : Exchanged p first second → Exchanged p second first
+  -- if one is valid so is the other, and the check gives the same of both
+  pub valid : Exchanged p first second → Valid first ↔ Valid second
+  pub check : Exchanged p first second → Valid first → checkOf second ≡ checkOf first
+  -- no time, slack or verdict changes, nor a growing ring or its gain: what timing may answer of one and leave in its buffers, it may of the other
+  pub timing : {X : Answer} {R : List ℤ} {A : List ℕ} → Exchanged p first second → Valid first →
+      Timing first numbers arcs X R A ↔ Timing second numbers arcs X R A
+  -- every path is a path of the other, and every report its report
+  pub path : {X : Way} {A : List ℕ} → Exchanged p first second → Valid first → PathCall first i arcs X A ↔ PathCall second i arcs X A
+  pub report : {size : ℕ} {after : List ℕ} → Exchanged p first second → Valid first → Report first text size after ↔ Report second text size after
