@@ -28,8 +28,9 @@ struct View {
     int64_t launch(uint32_t i) const { return flop(i) ? cycle : cycle - active(phase(i)); }
     // What an arc adds to its source's late departure.
     int64_t weight(uint32_t a) const {
-        uint32_t p = phase(from(a)), q = phase(to(a));
-        int64_t shift = static_cast<int64_t>(closing(q)) - closing(p) + (p < q ? 0 : cycle);
+        int64_t shift = static_cast<int64_t>(closing(phase(to(a)))) - closing(phase(from(a)));
+        if (shift <= 0) shift += cycle;
+        if (shift == 0) shift = cycle;
         return static_cast<int64_t>(greatest(from(a))) + word(arcs + 16 * a + 12) - shift;
     }
 };

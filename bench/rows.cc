@@ -39,10 +39,11 @@ std::vector<uint8_t> image_of(Circuit c) {
     return out;
 }
 
+// From a closing of the source's phase to the next, later one of the target's, which is a cycle away at most.
 int64_t shift(const Circuit &c, uint32_t from, uint32_t to) {
-    uint32_t p = c.synchronizers[from].phase, q = c.synchronizers[to].phase;
-    int64_t apart = static_cast<int64_t>(c.phases[q].closing) - c.phases[p].closing;
-    return p < q ? apart : c.cycle + apart;
+    int64_t closes = c.phases[c.synchronizers[from].phase].closing, next = c.phases[c.synchronizers[to].phase].closing;
+    while (next <= closes) next += c.cycle;
+    return std::min<int64_t>(next - closes, c.cycle);
 }
 
 // The ring P1.

@@ -1,14 +1,14 @@
 #!/usr/bin/env python3
 """The circuits with known numbers as image files and as texts, and the report of each.
 
-`python3 tests/circuits.py` writes circuits/p1.image to circuits/p10.image and circuits/too_long.image, each with its report beside it;
-circuits/p1.text to circuits/p10.text, and circuits/bad_line.text with its refusal; and the stored run of each program, which is P1: stdin and
+`python3 tests/circuits.py` writes circuits/p1.image to circuits/p15.image and circuits/too_long.image, each with its report beside it;
+circuits/p1.text to circuits/p15.text, and circuits/bad_line.text with its refusal; and the stored run of each program, which is P1: stdin and
 stdout in crates/neelukudam and crates/neelukudam_text. tests/link/run runs the programs on all of them.
 `python3 tests/circuits.py --check` only compares, and ends with status 1 where something differs.
 `python3 tests/circuits.py FILE...` prints the report of each image file.
 
 The reports come from the engine below. It was written from the rules (docs/RULES.md): departures are raised in place until nothing
-changes. The texts that were given with the rules are held against it by hand.
+changes. The reports that were given with the rules, and those of P11 to P15, are held against it by hand.
 
 The texts of the circuits stand below as a person writes them. None is stored before the reading below gives the stored image for it.
 """
@@ -32,9 +32,9 @@ def read(image):
 
 
 def shift(tc, phases, i, j):
-    """The shift from one phase to another."""
-    between = phases[j][0] - phases[i][0]
-    return between if i < j else tc + between
+    """The shift from one phase to another: how far round the cycle the other closes. That is never 0: where both close together, as they do at
+    0 and at Tc too, it is once round."""
+    return (phases[j][0] - phases[i][0]) % tc or tc
 
 
 def weights(tc, phases, synchronizers, arcs, least):
@@ -140,7 +140,7 @@ def report(image):
 
 
 def circuits():
-    """P1 to P10, as tests/image_cases.py makes them."""
+    """P1 to P15, as tests/image_cases.py makes them."""
     CASES.clear()
     known_circuits()
     return {name: image for name, _, image in CASES if name != "base"}
@@ -155,10 +155,18 @@ def too_long():
     return image
 
 
+# Exchanging two phases that close together changes nothing.
+TWO_TOGETHER = "timed 2 0 1\n0 50 50 - - - -\n1 50 50 -35 -35 -40 125\n"
+THREE_AROUND = "timed 3 0 1\n0 68 88 68 88 63 2\n1 70 88 3 88 -2 2\n2 100 100 45 78 40 17\n"
 PRINTED = {
     "p1": "timed 2 0 0\n0 60 60 25 60 20 30\n1 60 80 35 80 30 10\n",
     "p2": "loop 2 1\n1\n0\n",
     "p10": "timed 0 0 0\n",
+    "p11": TWO_TOGETHER,
+    "p12": TWO_TOGETHER,
+    "p13": "timed 2 0 2\n0 50 50 -35 -25 -40 115\n1 50 50 -25 15 -30 75\n",
+    "p14": THREE_AROUND,
+    "p15": THREE_AROUND,
     "too_long": "refused 5 0\n",
 }
 
@@ -235,6 +243,15 @@ def flip_flops_text(window):
     return "tc 100\nphase 100 50\nflop 0 10 10 8:8\nflop 0 10 10 8:8\narc 0 1 %s\n" % window
 
 
+def two_latches_text(phases, first, second, arcs):
+    return "tc 100\n%slatch %d 10 5 5:5\nlatch %d 10 5 5:5\n%s" % (phases, first, second, arcs)
+
+
+def three_around_text(phases, first, second):
+    cells = "latch %d 10 5 5:10\nlatch %d 10 5 5:10\nflop 0 5 5 8:8\n" % (first, second)
+    return "tc 100\nphase 40 20\n" + phases + cells + "arc 2 0 20:40\narc 0 1 30:90\narc 1 2 10:20\n"
+
+
 TEXTS = {
     "p1": ring_text("5:10", "10:20", "20:60"),
     "p2": ring_text("5:10", "10:20", "20:61"),
@@ -248,6 +265,11 @@ TEXTS = {
     "p8": flip_flops_text("1:80"),
     "p9": "tc 100\nphase 100 40\n" + 3 * "latch 0 0 0 0:0\n" + "arc 0 1 100:130\narc 1 2 100:120|110:130\n",
     "p10": "tc 100\nphase 100 40\n",
+    "p11": two_latches_text(2 * "phase 100 50\n", 0, 1, "arc 0 1 10:10\n"),
+    "p12": two_latches_text(2 * "phase 100 50\n", 1, 0, "arc 0 1 10:10\n"),
+    "p13": two_latches_text("phase 0 50\nphase 100 50\n", 0, 1, "arc 1 0 10:20\narc 0 1 20:60\n"),
+    "p14": three_around_text("phase 100 50\nphase 100 30\n", 1, 2),
+    "p15": three_around_text("phase 100 30\nphase 100 50\n", 2, 1),
 }
 # P1 with a dash where a colon should stand, on line 3.
 BAD_LINE = (TEXTS["p1"].replace("latch 0 10 5 5:10", "latch 0 10 5 5-10"), (15, 3))

@@ -175,6 +175,20 @@ def known_circuits():
     chain = [(0, 1, 100, 130), (1, 2, 100, 130)]
     case("p9", GOOD, build(100, [(100, 40)], [(0, 0, 0, 0, 0, 0)] * 3, chain))
     case("p10", GOOD, build(100, [(100, 40)], [], []))
+
+    # Phases that close together. The last argument has the phase of each synchronizer.
+    def two_latches(phases, arcs, on):
+        return build(100, phases, [(p, 0, 10, 5, 5, 5) for p in on], arcs)
+
+    def three_around(phases, on):
+        cells = [(0, 10, 5, 5, 10), (0, 10, 5, 5, 10), (1, 5, 5, 8, 8)]
+        return build(100, phases, [(p,) + cell for p, cell in zip(on, cells)], [(2, 0, 20, 40), (0, 1, 30, 90), (1, 2, 10, 20)])
+
+    case("p11", GOOD, two_latches([(100, 50), (100, 50)], [(0, 1, 10, 10)], (0, 1)))
+    case("p12", GOOD, two_latches([(100, 50), (100, 50)], [(0, 1, 10, 10)], (1, 0)))
+    case("p13", GOOD, two_latches([(0, 50), (100, 50)], [(1, 0, 10, 20), (0, 1, 20, 60)], (0, 1)))
+    case("p14", GOOD, three_around([(40, 20), (100, 50), (100, 30)], (1, 2, 0)))
+    case("p15", GOOD, three_around([(40, 20), (100, 30), (100, 50)], (2, 1, 0)))
     case("base", GOOD, BASE)
 
 

@@ -186,7 +186,9 @@ class Luck:
 
 
 def closings(luck, tc, k, style):
-    """Closing times that rise to the cycle: apart, several together, or at 0 and the cycle alone."""
+    """Closing times that rise to the cycle: apart, several together, all at the cycle, or at 0 and the cycle alone."""
+    if style == "end":
+        return [tc] * k
     if style == "ends":
         zeros = luck.below(k)
         return [0] * zeros + [tc] * (k - zeros)
@@ -272,7 +274,7 @@ class Draft:
 
 # ---- The kinds. ----
 
-# What is known of P1 to P10, as far as it makes a whole line.
+# What is known of P1 to P15, as far as it makes a whole line.
 STATED = {
     "p1": ["timed 0 0", "0 60 60 25 60 20 30", "1 60 80 35 80 30 10"],
     "p2": ["loop 2 1: 1 0"],
@@ -280,6 +282,11 @@ STATED = {
     "p6": ["path 0 launch 0 arcs 2: 1 0"],
     "p9": ["timed 1 0", "path 2 launch 0 arcs 2: 0 1"],
     "p10": ["timed 0 0"],
+    "p11": ["timed 0 1", "1 50 50 -35 -35 -40 125"],
+    "p12": ["timed 0 1", "1 50 50 -35 -35 -40 125"],
+    "p13": ["timed 0 2", "0 50 50 -35 -25 -40 115", "1 50 50 -25 15 -30 75"],
+    "p14": ["timed 0 1", "1 70 88 3 88 -2 2", "path 2 launch 2 arcs 3: 0 1 2"],
+    "p15": ["timed 0 1", "1 70 88 3 88 -2 2", "path 2 launch 2 arcs 3: 0 1 2"],
 }
 
 
@@ -333,6 +340,29 @@ def rings():
             d.close(members, gain)
             d.join_by_luck(count, slack=1 if gain == 1 else 0)
             frame(name, d.image(), "loop %d 1:" % length if gain == 1 else "timed")
+
+
+def rings_closing_together():
+    """The phases of a ring all close together: each shift is the cycle, whichever way it leads. Then two neighbouring phases with equal closing
+    times are exchanged, which changes no line."""
+    for style in ("end", "ends"):
+        for gain in (-1, 0, 1):
+            name = "ring-closing-at-%s-gain%+d" % (style, gain)
+            d = Draft(name, 6, k=5, style=style)
+            for i, p in enumerate((0, 4, 1, 3, 2, 1)):
+                d.nodes[i][0] = p
+                d.aim[i] = max(d.aim[i], d.opening(i))
+            assert all(d.shift(a, b) == d.tc for a in range(6) for b in range(6))
+            d.close(d.luck.mixed(range(6)), gain)
+            d.join_by_luck(6, slack=1 if gain == 1 else 0)
+            frame(name, d.image(), "loop 6 1:" if gain == 1 else "timed", asked=(0, 7))
+            p = next(p for p in (2, 0, 3) if d.phases[p][0] == d.phases[p + 1][0])
+            d.phases[p:p + 2] = d.phases[p + 1], d.phases[p]
+            for node in d.nodes:
+                node[0] = {p: p + 1, p + 1: p}.get(node[0], node[0])
+            before = FRAMES[-1][2].split(b"\n")[1:]
+            frame(name + "-exchanged", d.image(), asked=(0, 7))
+            assert FRAMES[-1][2].split(b"\n")[1:] == before
 
 
 def two_rings():
@@ -543,7 +573,8 @@ def refusals():
 
 
 def main():
-    for kind in (known, small, chains, rings, two_rings, broken_rings, self_arcs, woven_kinds, dense, by_luck, extremes, ties, full, refusals):
+    kinds = [known, small, chains, rings, rings_closing_together, two_rings, broken_rings, self_arcs, woven_kinds, dense, by_luck, extremes]
+    for kind in kinds + [ties, full, refusals]:
         kind()
     folder = ROOT / "crates" / "timing_cases"
     wanted = {folder / "stdin": b"".join(f for _, f, _ in FRAMES), folder / "stdout": b"".join(t for _, _, t in FRAMES)}

@@ -63,7 +63,19 @@ pub struct Plan {
     pub arcs: Vec<[u32; 4]>,
 }
 
+fn records<const N: usize>(words: &[u32]) -> Vec<[u32; N]> {
+    words.chunks_exact(N).map(|record| record.try_into().expect("a chunk has N words")).collect()
+}
+
 impl Plan {
+    /// The records of a good image.
+    pub fn of(image: &[u8]) -> Plan {
+        let words: Vec<u32> = image.chunks_exact(4).map(|word| u32::from_le_bytes([word[0], word[1], word[2], word[3]])).collect();
+        let (phases, others) = words[8..].split_at(2 * words[2] as usize);
+        let (synchronizers, arcs) = others.split_at(6 * words[3] as usize);
+        Plan { cycle: words[1], phases: records(phases), synchronizers: records(synchronizers), arcs: records(arcs) }
+    }
+
     /// The image, with the header that fits the tables.
     pub fn image(&self) -> Vec<u8> {
         let (k, l, m) = (self.phases.len() as u32, self.synchronizers.len() as u32, self.arcs.len() as u32);
@@ -81,14 +93,44 @@ impl Plan {
         i64::from(self.cycle) - i64::from(self.phases[self.synchronizers[i][0] as usize][1])
     }
 
+    /// When a phase closes on a dial that is the cycle round: Tc is 0 again.
+    fn dial(&self, phase: u32) -> i64 {
+        i64::from(self.phases[phase as usize][0] % self.cycle)
+    }
+
+    /// Forward on the dial. A hand that points to the same place goes once round.
     fn shift(&self, from: usize, to: usize) -> i64 {
-        let (i, j) = (self.synchronizers[from][0] as usize, self.synchronizers[to][0] as usize);
-        let between = i64::from(self.phases[j][0]) - i64::from(self.phases[i][0]);
-        if i < j {
-            between
+        let (leaves, enters) = (self.dial(self.synchronizers[from][0]), self.dial(self.synchronizers[to][0]));
+        if leaves < enters {
+            enters - leaves
         } else {
-            i64::from(self.cycle) + between
+            i64::from(self.cycle) + enters - leaves
         }
+    }
+
+    /// The two phases of each arc between different phases that close together.
+    pub fn arcs_together(&self) -> Vec<[u32; 2]> {
+        let ends = self.arcs.iter().map(|&[from, to, _, _]| [from, to].map(|cell| self.synchronizers[cell as usize][0]));
+        ends.filter(|&[i, j]| i != j && self.dial(i) == self.dial(j)).collect()
+    }
+
+    /// The phases that close at the same time as the next one.
+    pub fn equal_neighbours(&self) -> Vec<u32> {
+        (1..).zip(self.phases.windows(2)).filter(|(_, two)| two[0][0] == two[1][0]).map(|(next, _)| next - 1).collect()
+    }
+
+    /// A phase and the next one exchanged. Each synchronizer stays on its own.
+    pub fn exchanged(&self, phase: u32) -> Plan {
+        let mut plan = self.clone();
+        plan.phases.swap(phase as usize, phase as usize + 1);
+        for [on, ..] in &mut plan.synchronizers {
+            if *on == phase {
+                *on += 1;
+            } else if *on == phase + 1 {
+                *on -= 1;
+            }
+        }
+        plan
     }
 
     /// Puts the arcs in the image's order. Of two with the same ends, one goes.
@@ -163,6 +205,7 @@ impl Size {
     fn counts(self, random: &mut Random) -> (u32, u32, u32) {
         let (k, l) = match self {
             Size::Tiny => (random.between(1, 3), random.between(0, 3)),
+            Size::Small if random.chance(20) => (MOST_PHASES, random.between(4, 12)),
             Size::Small => (random.between(1, 5), random.between(4, 12)),
             Size::Middle => (random.between(1, MOST_PHASES), random.between(13, 120)),
             Size::Greatest => (MOST_PHASES, MOST_SYNCHRONIZERS),
@@ -194,10 +237,7 @@ fn start(random: &mut Random, size: Size, flip_flops: u32) -> Start {
         4 => (LIMIT - random.between(0, 2), LIMIT - random.between(0, 2)),
         _ => (random.between(1, 3), LIMIT - random.between(0, 2)),
     };
-    let mut closings: Vec<u32> = (1..k).map(|_| random.between(0, cycle)).collect();
-    closings.sort_unstable();
-    closings.push(cycle);
-    let phases = closings.into_iter().map(|closing| [closing, length(random, cycle)]).collect();
+    let phases = closings(random, cycle, k).into_iter().map(|closing| [closing, length(random, cycle)]).collect();
     let synchronizers = (0..l)
         .map(|_| {
             let kind = u32::from(random.chance(flip_flops));
@@ -206,6 +246,22 @@ fn start(random: &mut Random, size: Size, flip_flops: u32) -> Start {
         })
         .collect();
     Start { plan: Plan { cycle, phases, synchronizers, arcs: Vec::new() }, arcs: arcs as usize, longest }
+}
+
+/// Closing times that rise to the cycle: any; any of four, with 0 and the cycle among them; 0 and the cycle alone; or the cycle
+/// alone. So many phases close together.
+fn closings(random: &mut Random, cycle: u32, k: u32) -> Vec<u32> {
+    let any = |random: &mut Random| random.between(0, cycle);
+    let times = match random.between(0, 4) {
+        0 | 1 => (0..k).map(|_| any(random)).collect(),
+        2 => vec![0, any(random), any(random), cycle],
+        3 => vec![0, cycle],
+        _ => vec![cycle],
+    };
+    let mut closings: Vec<u32> = (1..k).map(|_| random.pick(&times)).collect();
+    closings.sort_unstable();
+    closings.push(cycle);
+    closings
 }
 
 /// From 0 to the cycle, often one of these two, often short.
@@ -476,9 +532,8 @@ pub fn at_limits() -> Vec<(&'static str, Vec<u8>)> {
             for (i, cell) in plan.synchronizers.iter_mut().enumerate() {
                 cell[0] = u32::from(i != first);
             }
-            // The shift from the first phase to the second is 0.
-            plan.synchronizers[first][4] = 0;
-            plan.synchronizers[first][5] = more;
+            // The two phases close together, so every shift is the cycle. The latches' delays make it up.
+            plan.arcs[0][3] += more;
             add(if more == 0 { "longest ring of gain 0" } else { "longest ring of gain 1" }, plan);
         }
     }
@@ -505,6 +560,17 @@ pub fn at_limits() -> Vec<(&'static str, Vec<u8>)> {
     wide.arcs = (0..MOST_ARCS).map(|i| [i % most, i / most, 0, 0]).collect();
     wide.phases = vec![[5, 5]; MOST_PHASES as usize];
     add("all tables full", wide.clone());
+    // The same on all phases in turn, which close together: all at Tc, or half of them at 0.
+    for zeros in [0, MOST_PHASES / 2] {
+        let mut plan = wide.clone();
+        for (i, cell) in (0..).zip(&mut plan.synchronizers) {
+            cell[0] = i % MOST_PHASES;
+        }
+        for phase in &mut plan.phases[..zeros as usize] {
+            phase[0] = 0;
+        }
+        add("all tables full, phases close together", plan);
+    }
     let mut plan = wide.clone();
     plan.phases.push([5, 5]);
     add("a phase too many", plan);

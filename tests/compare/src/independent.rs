@@ -168,10 +168,16 @@ impl Circuit {
         let cycle = i64::from(tables.numbers.cycle);
         let phases: Vec<[i64; 2]> = records(tables.phases).map(|phase| phase.map(i64::from)).collect();
         let cells: Vec<[u32; 6]> = records(tables.synchronizers).collect();
-        // The shift.
+        // Phases close together at equal times, and where one closes at 0 and the other at Tc.
+        let together = |i: usize, j: usize| {
+            let (first, last) = (phases[i.min(j)][0], phases[i.max(j)][0]);
+            first == last || (first == 0 && last == cycle)
+        };
         let shift = |i: usize, j: usize| {
             let between = phases[j][0] - phases[i][0];
-            if i < j {
+            if together(i, j) {
+                cycle
+            } else if i < j {
                 between
             } else {
                 cycle + between

@@ -1,4 +1,5 @@
-//! P1 to P10, with the numbers that were given with the rules. None was taken from a program's output.
+//! P1 to P15, with the numbers that were given with the rules; those of P11 to P15 were worked out by hand. None was taken from a
+//! program's output.
 #![forbid(unsafe_code)]
 
 use crate::images::Plan;
@@ -63,8 +64,47 @@ pub fn p10() -> Vec<u8> {
     Plan { cycle: 100, phases: vec![[100, 40]], synchronizers: vec![], arcs: vec![] }.image()
 }
 
+/// Two phases that close together, and two latches, with the phase of each.
+fn two_latches(phases: [[u32; 2]; 2], on: [u32; 2], arcs: &[[u32; 4]]) -> Vec<u8> {
+    Plan { cycle: 100, phases: phases.to_vec(), synchronizers: on.map(|phase| [phase, 0, 10, 5, 5, 5]).to_vec(), arcs: arcs.to_vec() }
+        .image()
+}
+
+/// The same behind a phase 0, which a flip-flop is on.
+fn three_around(phases: [[u32; 2]; 2], on: [u32; 2]) -> Vec<u8> {
+    Plan {
+        cycle: 100,
+        phases: vec![[40, 20], phases[0], phases[1]],
+        synchronizers: vec![[on[0], 0, 10, 5, 5, 10], [on[1], 0, 10, 5, 5, 10], [0, 1, 5, 5, 8, 8]],
+        arcs: vec![[2, 0, 20, 40], [0, 1, 30, 90], [1, 2, 10, 20]],
+    }
+    .image()
+}
+
+pub fn p11() -> Vec<u8> {
+    two_latches([[100, 50], [100, 50]], [0, 1], &[[0, 1, 10, 10]])
+}
+
+/// P11 with its phases exchanged.
+pub fn p12() -> Vec<u8> {
+    two_latches([[100, 50], [100, 50]], [1, 0], &[[0, 1, 10, 10]])
+}
+
+pub fn p13() -> Vec<u8> {
+    two_latches([[0, 50], [100, 50]], [0, 1], &[[1, 0, 10, 20], [0, 1, 20, 60]])
+}
+
+pub fn p14() -> Vec<u8> {
+    three_around([[100, 50], [100, 30]], [1, 2])
+}
+
+/// P14 with its last two phases exchanged.
+pub fn p15() -> Vec<u8> {
+    three_around([[100, 30], [100, 50]], [2, 1])
+}
+
 /// Images with their names.
-pub fn all() -> [(&'static str, Vec<u8>); 10] {
+pub fn all() -> [(&'static str, Vec<u8>); 15] {
     [
         ("P1", p1()),
         ("P2", p2()),
@@ -76,6 +116,11 @@ pub fn all() -> [(&'static str, Vec<u8>); 10] {
         ("P8", p8()),
         ("P9", p9()),
         ("P10", p10()),
+        ("P11", p11()),
+        ("P12", p12()),
+        ("P13", p13()),
+        ("P14", p14()),
+        ("P15", p15()),
     ]
 }
 
@@ -113,7 +158,7 @@ fn way(image: &[u8], synchronizer: u32) -> (u32, Vec<u32>) {
     (launch, arcs)
 }
 
-/// Holds the independent program against the numbers given with the rules, and gives how many numbers and texts were held. It panics where one differs.
+/// Holds the independent program against the known numbers, and gives how many numbers and texts were held. It panics where one differs.
 pub fn test() -> usize {
     let mut held = 0;
     macro_rules! same {
@@ -167,6 +212,19 @@ pub fn test() -> usize {
     same!(way(&p9(), 2), (0, vec![0, 1]));
 
     same!(text(&p10()), "timed 0 0 0\n");
+
+    // Phases that close together, and the same exchanged.
+    for image in [p11(), p12()] {
+        same!(text(&image), "timed 2 0 1\n0 50 50 - - - -\n1 50 50 -35 -35 -40 125\n");
+        same!(way(&image, 1), (0, vec![0]));
+    }
+    same!(text(&p13()), "timed 2 0 2\n0 50 50 -35 -25 -40 115\n1 50 50 -25 15 -30 75\n");
+    for image in [p14(), p15()] {
+        same!(text(&image), "timed 3 0 1\n0 68 88 68 88 63 2\n1 70 88 3 88 -2 2\n2 100 100 45 78 40 17\n");
+        same!(way(&image, 2), (2, vec![0, 1, 2]));
+    }
+    same!(Plan::of(&p11()).exchanged(0).image(), p12());
+    same!(Plan::of(&p14()).exchanged(1).image(), p15());
 
     // The refusals of the calls, on the known circuits.
     let refusal = |number| Refusal { number, record: 0 };

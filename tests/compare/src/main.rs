@@ -11,7 +11,7 @@
 use compare::images::{self, Expect, Plan, Random, Size};
 use compare::independent::{self, Numbers, Timing, MARK, MOST_ARCS, MOST_PHASES, MOST_SYNCHRONIZERS};
 use compare::known;
-use compare::linked::{Library, TimingAnswer};
+use compare::linked::{CheckAnswer, Library, PathAnswer, TimingAnswer};
 use compare::texts::{self, Meant};
 use compare::written::{self, MOST_DEPTH, MOST_TEXT_BYTES};
 use std::collections::BTreeMap;
@@ -43,6 +43,13 @@ const MAKERS: [(&str, Maker); 7] = [
 /// How many circuits each maker makes of each size.
 const SIZES: [(Size, u64); 4] = [(Size::Tiny, 400), (Size::Small, 300), (Size::Middle, 80), (Size::Greatest, 12)];
 
+// What a run may never be without: see `Comparison::see_together` and `exchange`.
+const TOGETHER: &str = "an arc between different phases that close together";
+const AT_ENDS: &str = "such an arc between 0 and Tc";
+const PAIRS: &str = "pairs";
+const BETWEEN: &str = "with an arc between the two";
+const GROWING: &str = "growing";
+
 /// What a call of timing came to.
 enum Found {
     Refused,
@@ -53,6 +60,16 @@ enum Found {
     Timed(Vec<i64>),
 }
 
+/// What the library's calls answer about one image, and what they leave in the buffers.
+struct Answers {
+    check: CheckAnswer,
+    timing: TimingAnswer,
+    results: Vec<i64>,
+    arcs: Vec<u32>,
+    paths: Vec<(PathAnswer, Vec<u32>)>,
+    report: Vec<u8>,
+}
+
 struct Comparison {
     library: Library,
     /// What buffers hold before a call, and which of the possible calls are made.
@@ -61,6 +78,8 @@ struct Comparison {
     texts: u64,
     /// How often each answer came: the call, and the kind of answer.
     seen: BTreeMap<(&'static str, String), u64>,
+    /// Where two phases were exchanged and a loop grows: how often the library showed the same ring.
+    same_rings: u64,
     longest_path: u32,
     longest_loop: u32,
     /// In size, marks aside.
@@ -93,6 +112,7 @@ impl Comparison {
             images: 0,
             texts: 0,
             seen: BTreeMap::new(),
+            same_rings: 0,
             longest_path: 0,
             longest_loop: 0,
             greatest_number: 0,
@@ -103,6 +123,13 @@ impl Comparison {
     fn see(&mut self, call: &'static str, refusal: u32, otherwise: &str) {
         let kind = if refusal > 0 { format!("refused {refusal}") } else { otherwise.to_string() };
         *self.seen.entry((call, kind)).or_default() += 1;
+    }
+
+    /// Each kind that is shown.
+    fn see_shown(&mut self, what: &'static str, kinds: &[(bool, &str)]) {
+        for (_, kind) in kinds.iter().filter(|(shown, _)| *shown) {
+            self.see(what, 0, kind);
+        }
     }
 
     fn results_by_chance(&mut self, length: usize) -> Vec<i64> {
@@ -239,15 +266,13 @@ impl Comparison {
         let short_results = (6 * l).saturating_sub(1);
         let found = self.timing(image, 6 * l, l)?;
         self.see_circuit(numbers, &found);
+        self.see_together(&Plan::of(image));
         for (results, arcs) in [(6 * l + 3, l + 2), (short_results, l), (6 * l, short), (short_results, short), (0, l), (6 * l, 0), (0, 0)]
         {
             self.timing(image, results, arcs)?;
         }
 
-        // Every synchronizer of a small circuit, some of a great one.
-        let asked: Vec<u32> =
-            if l <= 12 { (0..synchronizers).collect() } else { (0..4).map(|_| self.random.between(0, synchronizers - 1)).collect() };
-        for synchronizer in asked {
+        for synchronizer in self.asked(synchronizers) {
             let more = self.random.pick(&[0, 0, 2]);
             self.path(image, synchronizer, l + more)?;
         }
@@ -255,6 +280,14 @@ impl Comparison {
             self.path(image, synchronizer, arcs)?;
         }
         Ok(if let Found::Growing { .. } = found { Expect::Growing } else { Expect::Timed })
+    }
+
+    /// Where paths are asked to: every synchronizer of a small circuit, some of a great one.
+    fn asked(&mut self, synchronizers: u32) -> Vec<u32> {
+        if synchronizers <= 12 {
+            return (0..synchronizers).collect();
+        }
+        (0..4).map(|_| self.random.between(0, synchronizers - 1)).collect()
     }
 
     /// Counts what a circuit shows, so that a run in which something never came up is not taken for a good one.
@@ -284,9 +317,75 @@ impl Comparison {
                 self.greatest_number = self.greatest_number.max(size);
             }
         }
-        for (_, kind) in kinds.into_iter().filter(|(shown, _)| *shown) {
-            self.see("circuit", 0, kind);
+        self.see_shown("circuit", &kinds);
+    }
+
+    /// The same of phases that close together.
+    fn see_together(&mut self, plan: &Plan) {
+        let arcs = plan.arcs_together();
+        let closing = |phase: u32| plan.phases[phase as usize][0];
+        let closing_at = |time: u32| plan.phases.iter().filter(|phase| phase[0] == time).count();
+        let kinds = [
+            (!arcs.is_empty(), TOGETHER),
+            (arcs.iter().any(|&[i, j]| closing(i) != closing(j)), AT_ENDS),
+            (arcs.iter().any(|&[i, j]| arcs.contains(&[j, i])), "such arcs both ways"),
+            (arcs.iter().any(|&[i, _]| closing_at(closing(i)) > 2), "such an arc, three close together"),
+            (!arcs.is_empty() && closing_at(0) > 1 && closing_at(plan.cycle) > 1, "such an arc, several close at 0 and at Tc"),
+        ];
+        self.see_shown("circuit", &kinds);
+    }
+
+    // ---- Two phases exchanged. ----
+
+    fn answers(&mut self, image: &[u8], results: &[i64], arcs: &[u32], asked: &[u32]) -> Result<Answers, String> {
+        let (mut results, mut ring) = (results.to_vec(), arcs.to_vec());
+        let timing = self.library.timing(image, &mut results, &mut ring)?;
+        let mut paths = Vec::new();
+        for &synchronizer in asked {
+            let mut way = arcs.to_vec();
+            paths.push((self.library.path(image, synchronizer, &mut way)?, way));
         }
+        let mut report = vec![0; self.library.report(image, &mut [])?];
+        self.library.report(image, &mut report)?;
+        Ok(Answers { check: self.library.check(image)?, timing, results, arcs: ring, paths, report })
+    }
+
+    /// A circuit, and the same with a phase and the next one exchanged, which close at one time: the library must answer the same of
+    /// both, and leave the same in the buffers. Only a growing ring may be another. Before that each is compared as all images are.
+    fn exchange(&mut self, plan: &Plan, phase: u32) -> Result<Option<Expect>, String> {
+        let images = [plan.image(), plan.exchanged(phase).image()];
+        let found = self.image(&images[0])?;
+        if self.image(&images[1])? != found {
+            return Err("one of two circuits grows, the other, with two phases exchanged, does not".to_string());
+        }
+        let l = plan.synchronizers.len();
+        let (results, arcs, asked) = (self.results_by_chance(6 * l + 3), self.arcs_by_chance(l + 2), self.asked(l as u32));
+        let first = self.answers(&images[0], &results, &arcs, &asked)?;
+        let second = self.answers(&images[1], &results, &arcs, &asked)?;
+        let ring = first.timing == second.timing && first.arcs == second.arcs && first.report == second.report;
+        let growing = found == Some(Expect::Growing);
+        for (same, what) in [
+            (first.check == second.check, "check"),
+            (ring || growing, "timing or report"),
+            (first.results == second.results, "results"),
+            (first.paths == second.paths, "path"),
+        ] {
+            if !same {
+                return Err(format!("{what}: not the same with phases {phase} and {} exchanged", phase + 1));
+            }
+        }
+        if growing {
+            for (image, answers) in images.iter().zip([first, second]) {
+                let (ring, rest) = answers.arcs.split_at(answers.timing.loop_arcs as usize);
+                independent::judge_ring(image, ring, answers.timing.gain)?;
+                same_places("arcs behind the ring", rest, &arcs[ring.len()..])?;
+                judge_loop_text(image, &answers.report)?;
+            }
+        }
+        let between = plan.arcs_together().iter().any(|&[i, j]| i.min(j) == phase && i.max(j) == phase + 1);
+        self.see_shown("exchanged", &[(true, PAIRS), (between, BETWEEN), (growing, GROWING)]);
+        self.same_rings += u64::from(growing && ring);
+        Ok(found)
     }
 
     // ---- A text. ----
@@ -352,9 +451,7 @@ impl Comparison {
                 self.largest_made = self.largest_made.max(image.len());
             }
         }
-        for (_, kind) in kinds.into_iter().filter(|(shown, _)| *shown) {
-            self.see("text", 0, kind);
-        }
+        self.see_shown("text", &kinds);
     }
 
     // ---- Demand 3. ----
@@ -447,6 +544,25 @@ fn seed_of(seed: u64, kind: &str, number: u64) -> u64 {
     Random::new(seed ^ Random::new(kind).draw()).draw() ^ Random::new(number).draw()
 }
 
+/// One in a hundred of the greatest size, more of the smaller ones.
+fn by_number(number: u64) -> Size {
+    match number % 100 {
+        0 => Size::Greatest,
+        1..=19 => Size::Middle,
+        20..=79 => Size::Small,
+        _ => Size::Tiny,
+    }
+}
+
+/// Whether a circuit is what its maker knows of it.
+fn as_known(found: Option<Expect>, expect: Expect) -> Result<(), String> {
+    match (found, expect) {
+        (None, _) => Err("a good image was refused".to_string()),
+        (Some(_), Expect::Either) => Ok(()),
+        (Some(found), expect) => same("what the maker knows", found, expect),
+    }
+}
+
 fn compare(seed: u64, percent: u64, turn: Turn) -> Result<Comparison, String> {
     let share = |count: u64| (count * percent / 100).max(1);
     let mut comparison = Comparison::new();
@@ -481,11 +597,7 @@ fn compare(seed: u64, percent: u64, turn: Turn) -> Result<Comparison, String> {
                     c.random = Random::new(seed);
                     let (plan, expect) = maker(&mut c.random, size);
                     let image = plan.image();
-                    let outcome = c.image(&image).and_then(|found| match (found, expect) {
-                        (None, _) => Err("a good image was refused".to_string()),
-                        (Some(_), Expect::Either) => Ok(()),
-                        (Some(found), expect) => same("what the maker knows", found, expect),
-                    });
+                    let outcome = c.image(&image).and_then(|found| as_known(found, expect));
                     told(outcome, &kind, seed, &[&image])?;
                 }
                 Ok(())
@@ -494,7 +606,7 @@ fn compare(seed: u64, percent: u64, turn: Turn) -> Result<Comparison, String> {
     }
 
     // Damage of every byte and every length, done to known circuits and to small ones by chance.
-    let mut whole = vec![known::p1(), known::p7(), known::p9()];
+    let mut whole = vec![known::p1(), known::p7(), known::p9(), known::p13(), known::p14()];
     for number in 0..4 {
         let mut random = Random::new(seed_of(seed, "whole", number));
         let maker = if number % 2 == 0 { images::tight } else { images::free };
@@ -539,18 +651,40 @@ fn compare(seed: u64, percent: u64, turn: Turn) -> Result<Comparison, String> {
         Ok(())
     })?;
 
+    part(c, "phases exchanged", |c| {
+        let good = known::all().into_iter().chain(images::at_limits()).filter(|(_, image)| independent::check(image).is_ok());
+        let pairs = good.map(|(name, image)| (name, Plan::of(&image))).filter(|(_, plan)| !plan.equal_neighbours().is_empty());
+        c.random = Random::new(seed);
+        for (name, plan) in turn.pick(pairs) {
+            let phase = c.random.pick(&plan.equal_neighbours());
+            told(c.exchange(&plan, phase), name, 0, &[&plan.image(), &plan.exchanged(phase).image()])?;
+        }
+        for number in turn.below(share(2_000)) {
+            let seed = seed_of(seed, "phases exchanged", number);
+            c.random = Random::new(seed);
+            let size = by_number(number);
+            // Some have no two phases that close together.
+            let (plan, expect, phases) = loop {
+                let (plan, expect) = c.random.pick(&MAKERS).1(&mut c.random, size);
+                let phases = plan.equal_neighbours();
+                if !phases.is_empty() {
+                    break (plan, expect, phases);
+                }
+            };
+            let phase = c.random.pick(&phases);
+            let outcome = c.exchange(&plan, phase).and_then(|found| as_known(found, expect));
+            told(outcome, "phases exchanged", seed, &[&plan.image(), &plan.exchanged(phase).image()])?;
+        }
+        Ok(())
+    })?;
+
     part(c, "narrowing", |c| {
         for number in turn.below(share(3_000)) {
             let seed = seed_of(seed, "narrowing", number);
             c.random = Random::new(seed);
             let makers: [Maker; 4] = [images::loose, images::tight, images::forward, images::chain];
             let maker = c.random.pick(&makers);
-            let size = match number % 100 {
-                0 => Size::Greatest,
-                1..=19 => Size::Middle,
-                20..=79 => Size::Small,
-                _ => Size::Tiny,
-            };
+            let size = by_number(number);
             let first = maker(&mut c.random, size).0;
             let second = first.narrowed(&mut c.random);
             told(c.narrowing(&first, &second), "narrowing", seed, &[&first.image(), &second.image()])?;
@@ -572,7 +706,7 @@ fn compare(seed: u64, percent: u64, turn: Turn) -> Result<Comparison, String> {
 }
 
 /// What circuits must have shown.
-const CIRCUITS: [&str; 14] = [
+const CIRCUITS: [&str; 19] = [
     "no synchronizers",
     "no arcs",
     "16 phases",
@@ -587,6 +721,11 @@ const CIRCUITS: [&str; 14] = [
     "none missed",
     "hold slack 0",
     "setup slack 0",
+    TOGETHER,
+    AT_ENDS,
+    "such arcs both ways",
+    "such an arc, three close together",
+    "such an arc, several close at 0 and at Tc",
 ];
 
 /// What texts must have shown.
@@ -616,6 +755,7 @@ fn table(comparison: &Comparison, least: u64) -> Result<(), String> {
         ("report", vec!["timed", "loop"], refusals(&image)),
         ("image from text", vec!["made"], refusals(&[15, 3, 4, 6, 7, 8, 9, 16])),
         ("circuit", CIRCUITS.to_vec(), vec![]),
+        ("exchanged", vec![PAIRS, BETWEEN, GROWING], vec![]),
         ("text", TEXTS.to_vec(), vec![]),
     ];
     println!("answers seen:");
@@ -646,6 +786,23 @@ fn table(comparison: &Comparison, least: u64) -> Result<(), String> {
         None => Ok(()),
         Some(kind) => Err(format!("there is no such answer: {kind:?}")),
     }
+}
+
+/// Prints what came of phases that close together. Where one process does all, none of it may be missing, whatever the share; of
+/// several processes the script `run` asks that.
+fn together(comparison: &Comparison, all: bool) -> Result<(), String> {
+    let count = |call, kind: &str| comparison.seen.get(&(call, kind.to_string())).copied().unwrap_or(0);
+    let (images, at_ends) = (count("circuit", TOGETHER), count("circuit", AT_ENDS));
+    let [pairs, between, growing] = [PAIRS, BETWEEN, GROWING].map(|kind| count("exchanged", kind));
+    println!(
+        "together: {images} images with an arc between different phases that close together, {at_ends} of them between the two ends \
+         of the cycle; {pairs} pairs of such phases exchanged, {between} {BETWEEN}, {growing} {GROWING}, {} of these with the same ring",
+        comparison.same_rings
+    );
+    if all && [images, at_ends, pairs].contains(&0) {
+        return Err("nothing was seen of phases that close together".to_string());
+    }
+    Ok(())
 }
 
 fn hex(bytes: &[u8]) -> String {
@@ -687,10 +844,11 @@ fn run(arguments: &[&str]) -> Option<Result<String, String>> {
         _ => return None,
     };
     println!("seed {seed:#x}, {percent} percent of the circuits by chance");
-    println!("independent program: {} numbers and texts of P1 to P10 are as given with the rules", known::test());
+    println!("independent program: {} numbers and texts of P1 to P15 are as known", known::test());
     let outcome = compare(seed, percent, turn).and_then(|comparison| {
         // A part of the circuits need not show everything; of several processes each must see its share.
         table(&comparison, if percent < 100 { 0 } else { (LEAST_SEEN + turn.of - 1) / turn.of })?;
+        together(&comparison, turn.of == 1)?;
         Ok(format!("compare: {} calls agreed on {} images and {} texts", comparison.library.calls, comparison.images, comparison.texts))
     });
     Some(outcome.map_err(|what| format!("{what}\nrun's seed: {seed:#x}")))

@@ -72,6 +72,13 @@ fn known_circuits() -> Vec<Written> {
     let ring = |delay: &str, first: &str, second: &str| {
         format!("tc 100\nphase 50 40\nphase 100 40\nlatch 0 10 5 {delay}\nlatch 1 10 5 {delay}\narc 1 0 {first}\narc 0 1 {second}\n")
     };
+    let two_latches = |[a, b]: [&str; 2], [first, second]: [u32; 2], arcs: &str| {
+        format!("tc 100\nphase {a}\nphase {b}\nlatch {first} 10 5 5:5\nlatch {second} 10 5 5:5\n{arcs}")
+    };
+    let three_around = |[a, b]: [&str; 2], [first, second]: [u32; 2]| {
+        let cells = format!("latch {first} 10 5 5:10\nlatch {second} 10 5 5:10\nflop 0 5 5 8:8\n");
+        format!("tc 100\nphase 40 20\nphase {a}\nphase {b}\n{cells}arc 2 0 20:40\narc 0 1 30:90\narc 1 2 10:20\n")
+    };
     vec![
         image(P1, known::p1()),
         image(RICH, known::p1()),
@@ -83,6 +90,11 @@ fn known_circuits() -> Vec<Written> {
         image(P7.replace("2:80", "1:80"), known::p8()),
         image("tc 100\nphase 100 40\nlatch 0 0 0 0:0\nlatch 0 0 0 0:0\nlatch 0 0 0 0:0\narc 0 1 100:130\narc 1 2 100:130\n", known::p9()),
         image("tc 100\nphase 100 40\n", known::p10()),
+        image(two_latches(["100 50", "100 50"], [0, 1], "arc 0 1 10:10\n"), known::p11()),
+        image(two_latches(["100 50", "100 50"], [1, 0], "arc 0 1 10:10\n"), known::p12()),
+        image(two_latches(["0 50", "100 50"], [0, 1], "arc 1 0 10:20\narc 0 1 20:60\n"), known::p13()),
+        image(three_around(["100 50", "100 30"], [1, 2]), known::p14()),
+        image(three_around(["100 30", "100 50"], [2, 1]), known::p15()),
     ]
 }
 
