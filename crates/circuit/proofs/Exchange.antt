@@ -2,21 +2,24 @@
 -- closing times does not change, since the two close at the same time; and a shift is told by closing times, not by the numbers of phases.
 use mathlib.Core.Path.{_≡_, refl, sym, ap, fun-ext, _∙_}
 use mathlib.Core.Bool.{Bool, true, false, cond}
-use mathlib.Core.List.{List}
+use mathlib.Core.List.{List, [], _∷_}
 use mathlib.Core.Logic.{_≢_, _⊎_, inl, inr}
 use Prim.Native.Nat.{ℕ, suc, _≤_, _<_}
 use native.Mathlib.Omega.{arith}
 use native.Mathlib.Decide.{decLt}
-use lib.Dec.{eqb}
+use lib.Dec.{eqb, lit<}
 use lib.IntN.{ℤ}
 use lib.ListN.{length}
 use borrow.Author.Tests.{eqb-true, eqb-false, eq-eqb, ne-eqb}
-use Rattle.image.specs.Header.{imageOf}
+use Rattle.image.specs.Words.{wordAt}
+use Rattle.image.specs.Header.{headerOf, imageOf}
+use Rattle.image.specs.Records.{phaseAt, synchronizerAt, arcAt}
 use Rattle.image.specs.declared.header.Image.{Image}
 use Rattle.image.specs.declared.records.Phase.{Phase}
 use Rattle.image.specs.Valid.{imageIn, phaseIn, synchronizerIn, arcIn, ValidPhase, ValidSynchronizer, ValidArc, Before, Valid}
 use Rattle.flow.specs.Flow.{Side, late, early}
 use Rattle.flow.specs.inside.Same.{Same}
+use Rattle.flow.proofs.Pigeonhole.{below-suc}
 use Rattle.circuit.specs.Circuit.{Circuit, circuitOf}
 use Rattle.circuit.specs.Clock.{across, isLatch, opening, launch, delay, weight, flow}
 use Rattle.circuit.specs.Times.{setupSlack, holdSlack}
@@ -25,6 +28,48 @@ use Rattle.circuit.proofs.Sound.{Sound, sound}
 use Rattle.circuit.proofs.Shifts.{shift-same}
 use Rattle.circuit.proofs.Unique.{Alike}
 
+-- ---- the relation holds of real images: two latches on two phases that close together, with an arc between them, and the same with the two phases
+-- exchanged. Their active lengths differ, so that these are seen to travel along
+-- words below 256, the least significant byte first
+abbrev pub words : List ℕ → List ℕ
+words [] = []
+words (n ∷ ns) = n ∷ 0 ∷ 0 ∷ 0 ∷ words ns
+
+-- version, Tc, k, l, m, the three tables; two phases; the phases of the two latches; the arc
+abbrev pub image : (active active′ phase phase′ : ℕ) → List ℕ
+image active active′ phase phase′ = words (
+    1 ∷ 100 ∷ 2 ∷ 2 ∷ 1 ∷ 32 ∷ 48 ∷ 96 ∷
+    100 ∷ active ∷ 100 ∷ active′ ∷
+    phase ∷ 0 ∷ 10 ∷ 5 ∷ 5 ∷ 5 ∷
+    phase′ ∷ 0 ∷ 10 ∷ 5 ∷ 5 ∷ 5 ∷
+    0 ∷ 1 ∷ 10 ∷ 10 ∷ [])
+
+abbrev pub first : List ℕ
+first = image 50 40 0 1
+
+abbrev pub second : List ℕ
+second = image 40 50 1 0
+
+-- what holds of 0, and of 0 and 1
+one : (P : ℕ → Type 0) → P 0 → (i : ℕ) → i < 1 → P i
+one P a = below-suc P 0 (λ i l. let z : ⊥ = omega arith in absurd z) a
+
+two : (P : ℕ → Type 0) → P 0 → P 1 → (i : ℕ) → i < 2 → P i
+two P a b = below-suc P 1 (one P a) b
+
+pub some-exchanged : Exchanged 0 first second
+unfolding wordAt headerOf phaseAt synchronizerAt arcAt swapped
+some-exchanged = record {
+  header = refl;
+  long = refl;
+  here = lit< tt;
+  close = omega arith;
+  phase = two _ refl refl;
+  synchronizer = two _ refl refl;
+  arc = one _ refl;
+}
+
+-- ---- of any two images
 -- a phase is one of the two, or keeps its number
 abbrev Swaps : ℕ → ℕ → ℕ → Type 0
 Swaps p q r = ((q ≡ p) × (r ≡ suc p)) ⊎ ((q ≡ suc p) × (r ≡ p)) ⊎ ((q ≢ p) × (q ≢ suc p) × (r ≡ q))

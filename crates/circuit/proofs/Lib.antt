@@ -6,7 +6,6 @@ pub mod Ranges
 pub mod Solved
 pub mod Unique
 pub mod Exchange
-pub mod ExchangeExample
 pub mod Sizes
 pub mod Narrowing
 pub mod Changes

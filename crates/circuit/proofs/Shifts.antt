@@ -2,12 +2,14 @@
 -- leads from a tick at which the first closes to one at which the second does. So phases that close together act as one.
 use mathlib.Core.Path.{_≡_, refl, sym, _∙_}
 use mathlib.Core.Bool.{Bool, true, false, cond}
-use mathlib.Core.Logic.{_⊎_, inl, inr, _≢_}
+use mathlib.Core.List.{List, [], _∷_, map}
+use mathlib.Core.Logic.{_⊎_, inl, inr, _≢_, _↔_}
 use Prim.Native.Nat.{ℕ, _+_, _≤_, _<_}
 use native.Mathlib.Omega.{arith}
 use native.Mathlib.Decide.{decLt}
 use lib.Dec.{ltb, eqb}
 use lib.IntN.{ℤ, pos, _-ℤ_}
+use lib.ListN.{getD}
 use lib.Signed.{_≤ℤ_}
 use borrow.Author.Tests.{eqb-true, eqb-false, eq-eqb, ltb-true, ltb-false}
 use Rattle.ticks.proofs.Ints.{ints, diff}
@@ -15,6 +17,43 @@ use Rattle.circuit.specs.Circuit.{Circuit}
 use Rattle.circuit.specs.Clock.{tick, together, shift}
 use Rattle.circuit.proofs.Sound.{Sound}
 
+-- ---- one clock, in numbers: phases that close at 0, at 40, and three at 100, which is Tc. The first closes together with the last three
+-- a circuit with this clock, and nothing else in it
+abbrev clock : List ℕ → Circuit
+clock closings = record {
+  cycle = 100;
+  phases = 5;
+  synchronizers = 0;
+  arcs = 0;
+  closing = λ p. getD closings p 0;
+  active = λ p. 0;
+  phase = λ i. 0;
+  kind = λ i. 0;
+  setup = λ i. 0;
+  hold = λ i. 0;
+  least = λ i. 0;
+  greatest = λ i. 0;
+  from = λ a. 0;
+  to = λ a. 0;
+  shortest = λ a. 0;
+  longest = λ a. 0;
+}
+
+-- from a phase to each of the five
+shifts : ℕ → List ℤ
+shifts p = map (shift (clock (0 ∷ 40 ∷ 100 ∷ 100 ∷ 100 ∷ [])) p) (0 ∷ 1 ∷ 2 ∷ 3 ∷ 4 ∷ [])
+
+computed : map shifts (0 ∷ 1 ∷ 2 ∷ 3 ∷ 4 ∷ []) ≡
+    (pos 100 ∷ pos 40 ∷ pos 100 ∷ pos 100 ∷ pos 100 ∷ []) ∷
+    (pos 60 ∷ pos 100 ∷ pos 60 ∷ pos 60 ∷ pos 60 ∷ []) ∷
+    (pos 100 ∷ pos 40 ∷ pos 100 ∷ pos 100 ∷ pos 100 ∷ []) ∷
+    (pos 100 ∷ pos 40 ∷ pos 100 ∷ pos 100 ∷ pos 100 ∷ []) ∷
+    (pos 100 ∷ pos 40 ∷ pos 100 ∷ pos 100 ∷ pos 100 ∷ []) ∷
+    []
+unfolding tick together shift shifts
+computed = refl
+
+-- ---- of any clock
 -- z leads from the tick x of a cycle to the next tick y: in the same cycle, or in the one after
 pub record NextClose (tc x y : ℕ) (z : ℤ) : Type 0 where
   pub some : pos 1 ≤ℤ z
@@ -115,6 +154,34 @@ module _ (c : Circuit) (v : Sound c) where
         go true e t f = together-next (eqb-true _ _ e)
         go false e true f = on (omega (arith, ltb-true p q f)) (eqb-false _ _ e) (ticks p l) (ticks q m)
         go false e false f = round (omega (arith, ltb-false p q f)) (eqb-false _ _ e) (ticks p l) (ticks q m)
+
+  -- 0 and Tc are one tick
+  tick-0 : (p : ℕ) → p < c .phases → (c .closing p ≡ 0) ⊎ (c .closing p ≡ c .cycle) → tick c p ≡ 0
+  tick-0 p l h = go h (ticks p l)
+    where
+      go : (c .closing p ≡ 0) ⊎ (c .closing p ≡ c .cycle) → Ticks c p → tick c p ≡ 0
+      go h (inl x) = x .1
+      go (inl h) (inr x) = x .1 ∙ h
+      go (inr h) (inr x) = omega arith
+
+  -- phases close together that close at the same time, or one at 0 and the other at Tc; and no others
+  pub together-exactly : (p q : ℕ) → p < c .phases → q < c .phases → (together c p q ≡ true) ↔
+      ((c .closing p ≡ c .closing q) ⊎ ((c .closing p ≡ 0) × (c .closing q ≡ c .cycle)) ⊎ ((c .closing p ≡ c .cycle) × (c .closing q ≡ 0)))
+  unfolding together tick
+  together-exactly p q l m = (λ e. to (eqb-true (tick c p) (tick c q) e) (ticks p l) (ticks q m), λ h. eq-eqb (tick c p) (tick c q) (from h))
+    where
+      to : tick c p ≡ tick c q → Ticks c p → Ticks c q →
+          (c .closing p ≡ c .closing q) ⊎ ((c .closing p ≡ 0) × (c .closing q ≡ c .cycle)) ⊎ ((c .closing p ≡ c .cycle) × (c .closing q ≡ 0))
+      to e (inl x) (inl y) = inl (x .0 ∙ sym (y .0))
+      to e (inl x) (inr y) = inr (inr (x .0, sym (y .1) ∙ sym e ∙ x .1))
+      to e (inr x) (inl y) = inr (inl (sym (x .1) ∙ e ∙ y .1, y .0))
+      to e (inr x) (inr y) = inl (sym (x .1) ∙ e ∙ y .1)
+
+      from : (c .closing p ≡ c .closing q) ⊎ ((c .closing p ≡ 0) × (c .closing q ≡ c .cycle)) ⊎ ((c .closing p ≡ c .cycle) × (c .closing q ≡ 0)) →
+          tick c p ≡ tick c q
+      from (inl h) = rw h
+      from (inr (inl h)) = tick-0 p l (inl (h .0)) ∙ sym (tick-0 q m (inr (h .1)))
+      from (inr (inr h)) = tick-0 p l (inr (h .0)) ∙ sym (tick-0 q m (inl (h .1)))
 
 -- so a shift is told by when the two phases close, in one circuit or in two of one cycle
 next-told : {tc x y tc′ x′ y′ : ℕ} {z w : ℤ} → tc′ ≡ tc → x′ ≡ x → y′ ≡ y → NextClose tc′ x′ y′ z → NextClose tc x y w → z ≡ w

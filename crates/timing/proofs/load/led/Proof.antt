@@ -88,7 +88,7 @@ returns c =
     let k = read shift in
     let e = k .before .before .pre in (
       rw (c .before .before .before .before .narrow .ensures)
-      (led-known (e .0) (e .1 .0) (e .1 .1 .0) (k .of .ensures) (e .1 .1 .1) (shift .shift .ensures)),
+          (led-known (e .0) (e .1 .0) (e .1 .1 .0) (k .of .ensures) (e .1 .1 .1) (shift .shift .ensures)),
       target-known (e .0) (e .1 .0) (e .1 .1 .0) (k .of .ensures) (e .1 .1 .1),
     )
 
