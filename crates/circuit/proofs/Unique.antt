@@ -9,8 +9,8 @@ use Rattle.flow.specs.Flow.{Side, late, early, When, Least}
 use Rattle.flow.specs.inside.Same.{Same}
 use Rattle.flow.specs.inside.Within.{Agree}
 use Rattle.flow.proofs.Rounds.{least-unique}
-use Rattle.flow.proofs.Agree.{same-self}
-use Rattle.flow.proofs.Agree as flows
+use Rattle.flow.proofs.Agree.{same-self, arrival-agree}
+use Rattle.flow.proofs.Arrival as flows
 use Rattle.circuit.specs.Circuit.{Circuit}
 use Rattle.circuit.specs.Clock.{flow}
 use Rattle.circuit.specs.Times.{Times, arrives, setupSlack, holdSlack, missed, count, missedSetups, missedHolds, six, results}
@@ -64,7 +64,7 @@ module _ (c : Circuit) (v : Sound c) (s : Side) (D D′ : ℕ → ℤ) (t : Leas
   departure-same = least-unique s (flow s c) D D′ t t′
 
   pub arrival-same : (i : ℕ) → arrives s c D i ≡ arrives s c D′ i
-  arrival-same i = flows.arrival-agree (flow s c) (good s c v) D D′ departure-same s i
+  arrival-same i = arrival-agree (flow s c) (good s c v) D D′ departure-same s i
 
 module _ (c : Circuit) (v : Sound c) (E D E′ D′ : ℕ → ℤ) (t : Times c E D) (t′ : Times c E′ D′) where
   sooner : Agree (flow early c) E′ E

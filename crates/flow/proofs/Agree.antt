@@ -1,20 +1,20 @@
 -- Only what a flow says of its nodes and arcs counts, and only the departures of the nodes: where two flows are the same there, and
 -- departures agree at every node, so do arrivals, and one is a least solution, or has a rank, if the other is or has. So all that is
 -- read off a least solution is unique.
-use mathlib.Core.Path.{_≡_, refl, sym, ap, _∙_}
-use Prim.Native.Nat.{ℕ, zero, suc, _<_, _≤_}
-use native.Mathlib.Omega.{arith}
+use mathlib.Core.Path.{_≡_, refl, sym, _∙_}
+use Prim.Native.Nat.{ℕ, zero, suc, _<_}
 use lib.IntN.{ℤ}
-use Rattle.flow.specs.Flow.{Flow, Good, Side, brings, into, arrival, next, Fits, Least}
+use Rattle.flow.specs.Flow.{Flow, Good, Side, arrival, next, Fits, Least}
 use Rattle.flow.specs.Bounds.{Unentered}
 use Rattle.flow.specs.inside.Within.{Agree}
 use Rattle.flow.specs.inside.Same.{Same}
 use Rattle.flow.specs.Rank.{Tight, Reaches, Lowest, Rank}
+use Rattle.flow.proofs.Arrival.{brings-same, arrival-same}
 
 pub agree-self : (f : Flow) (D : ℕ → ℤ) → Agree f D D
 agree-self f D i l = refl
 
-pub agree-sym : (f : Flow) (D E : ℕ → ℤ) → Agree f D E → Agree f E D
+agree-sym : (f : Flow) (D E : ℕ → ℤ) → Agree f D E → Agree f E D
 agree-sym f D E h i l = sym (h i l)
 
 pub same-self : (f : Flow) → Same f f
@@ -54,21 +54,9 @@ same-good f g good same = record {
 
 -- what f makes of D, g makes of E
 module _ (f g : Flow) (good : Good f) (same : Same f g) (D E : ℕ → ℤ) (agree : Agree f D E) where
-  pub brings-same : (a : ℕ) → a < f .arcs → brings g E a ≡ brings f D a
-  brings-same a l = rw (same .source a l, same .weight a l, agree (f .source a) (good .leaves a l))
-
-  into-same : (s : Side) (i n : ℕ) → n ≤ f .arcs → into s g E i n ≡ into s f D i n
-  unfolding into
-  into-same s i zero l = refl
-  into-same s i (suc n) l = rw (same .target n (omega arith), brings-same n (omega arith), into-same s i n (omega arith))
-
-  pub arrival-same : (s : Side) (i : ℕ) → arrival s g E i ≡ arrival s f D i
-  unfolding arrival
-  arrival-same s i = ap (into s g E i) (same .arcs) ∙ into-same s i (f .arcs) (omega arith)
-
   pub next-same : (s : Side) (i : ℕ) → i < f .nodes → next s g E i ≡ next s f D i
   unfolding next
-  next-same s i l = rw (same .latch i l, same .launch i l, arrival-same s i)
+  next-same s i l = rw (same .latch i l, same .launch i l, arrival-same f g good same D E agree s i)
 
   pub fits-same : (s : Side) → Fits s f D → Fits s g E
   fits-same s h i l = let k : i < f .nodes = rw (same .nodes) at l in sym (agree i k) ∙ h i k ∙ sym (next-same s i k)
@@ -83,7 +71,7 @@ module _ (f g : Flow) (good : Good f) (same : Same f g) (D E : ℕ → ℤ) (agr
         here = rw (same .arcs) k;
         enters = same .target a k ∙ t .enters;
         holds = same .latch i l ∙ t .holds;
-        carries = brings-same a k ∙ t .carries ∙ agree i l;
+        carries = brings-same f g good same D E agree a k ∙ t .carries ∙ agree i l;
       } in
       (a, tight, rw (same .source a k) (reaches-same n (f .source a) (good .leaves a k) (h .2)))
 
@@ -114,6 +102,3 @@ module _ (f : Flow) (good : Good f) (D E : ℕ → ℤ) (agree : Agree f D E) wh
   pub next-agree : (s : Side) (i : ℕ) → next s f D i ≡ next s f E i
   unfolding next
   next-agree s i = rw (arrival-agree s i)
-
-  pub rank-agree : (i : ℕ) → i < f .nodes → (n : ℕ) → Rank f D i n → Rank f E i n
-  rank-agree = rank-same f f good (same-self f) D E agree

@@ -1,17 +1,18 @@
 -- What an arrival is: on either side one of the times that the arcs bring, which bounds them all. By one recursion over the
 -- arcs, which finds the lowest-numbered arc that brings it.
-use mathlib.Core.Path.{_≡_, refl, ap}
+use mathlib.Core.Path.{_≡_, refl, ap, _∙_}
 use mathlib.Core.Bool.{Bool, true, false}
 use mathlib.Core.Logic.{inl, inr, _≢_, _↔_}
-use Prim.Native.Nat.{ℕ, zero, suc, _<_}
+use Prim.Native.Nat.{ℕ, zero, suc, _<_, _≤_}
 use native.Mathlib.Omega.{arith}
 use native.Mathlib.Decide.{decLt}
 use lib.Dec.{eqb}
 use lib.IntN.{ℤ}
 use borrow.Author.Tests.{eqb-true, eqb-false}
-use Rattle.flow.specs.Flow.{Flow, Side, When, none, at, join, brings, into, arrival}
+use Rattle.flow.specs.Flow.{Flow, Good, Side, When, none, at, join, brings, into, arrival}
 use Rattle.flow.specs.Bounds.{Inside, Unentered}
-use Rattle.flow.specs.inside.Within.{Gives}
+use Rattle.flow.specs.inside.Within.{Agree, Gives}
+use Rattle.flow.specs.inside.Same.{Same}
 use Rattle.flow.proofs.Pigeonhole.{below-suc}
 use Rattle.flow.proofs.Sides.{inside-refl, inside-antisym, inside-short, pick-case}
 
@@ -106,3 +107,17 @@ module _ (s : Side) (f : Flow) (D : ℕ → ℤ) (i : ℕ) where
       from : {w : When} → Found s f D i (f .arcs) w → Unentered f i (f .arcs) → w ≡ none
       from (nothing h) k = refl
       from (found a h) k = absurd (k a (h .here) (h .enters))
+
+-- two flows that are the same, at departures that agree, bring the same times
+module _ (f g : Flow) (good : Good f) (same : Same f g) (D E : ℕ → ℤ) (agree : Agree f D E) where
+  pub brings-same : (a : ℕ) → a < f .arcs → brings g E a ≡ brings f D a
+  brings-same a l = rw (same .source a l, same .weight a l, agree (f .source a) (good .leaves a l))
+
+  into-same : (s : Side) (i n : ℕ) → n ≤ f .arcs → into s g E i n ≡ into s f D i n
+  unfolding into
+  into-same s i zero l = refl
+  into-same s i (suc n) l = rw (same .target n (omega arith), brings-same n (omega arith), into-same s i n (omega arith))
+
+  pub arrival-same : (s : Side) (i : ℕ) → arrival s g E i ≡ arrival s f D i
+  unfolding arrival
+  arrival-same s i = ap (into s g E i) (same .arcs) ∙ into-same s i (f .arcs) (omega arith)

@@ -9,7 +9,8 @@ use Rattle.flow.specs.inside.Within.{Agree}
 use Rattle.flow.specs.inside.Same.{Same}
 use Rattle.flow.specs.Path.{Brought, Last, Back, PathTo}
 use Rattle.flow.proofs.Rounds.{least-unique}
-use Rattle.flow.proofs.Agree.{agree-self, agree-back, same-self, same-sym, same-good, brings-same, arrival-same, lowest-same, rank-same}
+use Rattle.flow.proofs.Agree.{agree-self, agree-back, same-self, same-sym, same-good, lowest-same, rank-same}
+use Rattle.flow.proofs.Arrival.{brings-same, arrival-same}
 use Rattle.flow.proofs.Path.{path-unique}
 
 brought-agree : (f g : Flow) → Good f → Same f g → (D E : ℕ → ℤ) → Agree f D E →
