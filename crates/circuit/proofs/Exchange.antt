@@ -4,26 +4,23 @@ use mathlib.Core.Path.{_≡_, refl, sym, ap, fun-ext, _∙_}
 use mathlib.Core.Bool.{Bool, true, false, cond}
 use mathlib.Core.List.{List, [], _∷_}
 use mathlib.Core.Logic.{_≢_, _⊎_, inl, inr}
-use Prim.Native.Nat.{ℕ, suc, _≤_, _<_}
+use Prim.Native.Nat.{ℕ, suc, _<_}
 use native.Mathlib.Omega.{arith}
-use native.Mathlib.Decide.{decLt}
 use lib.Dec.{eqb, lit<}
-use lib.IntN.{ℤ}
-use lib.ListN.{length}
-use borrow.Author.Tests.{eqb-true, eqb-false, eq-eqb, ne-eqb}
+use borrow.Author.Tests.{eqb-true, eqb-false}
 use Rattle.image.specs.Words.{wordAt}
 use Rattle.image.specs.Header.{headerOf, imageOf}
 use Rattle.image.specs.Records.{phaseAt, synchronizerAt, arcAt}
 use Rattle.image.specs.declared.header.Image.{Image}
 use Rattle.image.specs.declared.records.Phase.{Phase}
-use Rattle.image.specs.Valid.{imageIn, phaseIn, synchronizerIn, arcIn, ValidPhase, ValidSynchronizer, ValidArc, Before, Valid}
+use Rattle.image.specs.Valid.{imageIn, phaseIn, synchronizerIn, arcIn, Valid}
 use Rattle.flow.specs.Flow.{Side, late, early}
 use Rattle.flow.specs.inside.Same.{Same}
 use Rattle.flow.proofs.Pigeonhole.{below-suc}
 use Rattle.circuit.specs.Circuit.{Circuit, circuitOf}
 use Rattle.circuit.specs.Clock.{across, isLatch, opening, launch, delay, weight, flow}
 use Rattle.circuit.specs.Times.{setupSlack, holdSlack}
-use Rattle.circuit.specs.Exchange.{swapped, renumbered, Exchanged}
+use Rattle.circuit.specs.Exchange.{swapped, Exchanged}
 use Rattle.circuit.proofs.Sound.{Sound, sound}
 use Rattle.circuit.proofs.Shifts.{shift-same}
 use Rattle.circuit.proofs.Unique.{Alike}

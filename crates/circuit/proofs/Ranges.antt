@@ -1,11 +1,11 @@
 -- How large the clock's numbers are: shifts and launches lie between 0 and Tc, and weights follow. Early weights are no greater
 -- than late ones, so the early flow lies within the late one.
-use mathlib.Core.Path.{_≡_, refl}
+use mathlib.Core.Path.{refl}
 use mathlib.Core.Bool.{Bool, true, false, cond}
-use Prim.Native.Nat.{ℕ, _+_, _≤_, _<_}
+use Prim.Native.Nat.{ℕ, _≤_, _<_}
 use native.Mathlib.Nat.{le-refl}
 use native.Mathlib.Omega.{arith}
-use lib.IntN.{ℤ, pos, negsuc, _-ℤ_}
+use lib.IntN.{ℤ, pos, negsuc}
 use lib.Signed.{_≤ℤ_, ≤ℤ-refl}
 use Rattle.ticks.proofs.Ints.{ints, diff}
 use Rattle.flow.specs.Flow.{Side, late, early}

@@ -19,7 +19,7 @@ use Rattle.circuit.proofs.Sound.{Sound}
 
 -- ---- one clock, in numbers: phases that close at 0, at 40, and three at 100, which is Tc. The first closes together with the last three
 -- a circuit with this clock, and nothing else in it
-abbrev clock : List ℕ → Circuit
+abbrev pub clock : List ℕ → Circuit
 clock closings = record {
   cycle = 100;
   phases = 5;
@@ -40,18 +40,18 @@ clock closings = record {
 }
 
 -- from a phase to each of the five
-shifts : ℕ → List ℤ
+abbrev pub shifts : ℕ → List ℤ
 shifts p = map (shift (clock (0 ∷ 40 ∷ 100 ∷ 100 ∷ 100 ∷ [])) p) (0 ∷ 1 ∷ 2 ∷ 3 ∷ 4 ∷ [])
 
-computed : map shifts (0 ∷ 1 ∷ 2 ∷ 3 ∷ 4 ∷ []) ≡
+pub clock-shifts : map shifts (0 ∷ 1 ∷ 2 ∷ 3 ∷ 4 ∷ []) ≡
     (pos 100 ∷ pos 40 ∷ pos 100 ∷ pos 100 ∷ pos 100 ∷ []) ∷
     (pos 60 ∷ pos 100 ∷ pos 60 ∷ pos 60 ∷ pos 60 ∷ []) ∷
     (pos 100 ∷ pos 40 ∷ pos 100 ∷ pos 100 ∷ pos 100 ∷ []) ∷
     (pos 100 ∷ pos 40 ∷ pos 100 ∷ pos 100 ∷ pos 100 ∷ []) ∷
     (pos 100 ∷ pos 40 ∷ pos 100 ∷ pos 100 ∷ pos 100 ∷ []) ∷
     []
-unfolding tick together shift shifts
-computed = refl
+unfolding tick together shift
+clock-shifts = refl
 
 -- ---- of any clock
 -- z leads from the tick x of a cycle to the next tick y: in the same cycle, or in the one after
@@ -69,6 +69,14 @@ next-one {tc} {x} {y} {z} {w} h k = go (h .lands) (k .lands)
     go (inl e) (inr f) = omega (ints, e, f, h .some, k .most, diff (pos y) (pos x), diff (pos (tc + y)) (pos x))
     go (inr e) (inl f) = omega (ints, e, f, k .some, h .most, diff (pos y) (pos x), diff (pos (tc + y)) (pos x))
     go (inr e) (inr f) = e ∙ sym f
+
+-- a number that is never below zero
+module _ {tc x y r : ℕ} (some : 1 ≤ r) (most : r ≤ tc) where
+  pub lands-now : x + r ≡ y → NextClose tc x y (pos r)
+  lands-now e = record { some = omega ints; most = omega ints; lands = inl (omega (ints, diff (pos y) (pos x))) }
+
+  pub lands-later : x + r ≡ tc + y → NextClose tc x y (pos r)
+  lands-later e = record { some = omega ints; most = omega ints; lands = inr (omega (ints, diff (pos (tc + y)) (pos x))) }
 
 -- phases that close together have a shift of Tc
 pub shift-together : (c : Circuit) (p q : ℕ) → tick c p ≡ tick c q → shift c p q ≡ pos (c .cycle)
@@ -104,11 +112,7 @@ module _ (c : Circuit) (v : Sound c) where
     Next = NextClose (c .cycle) (tick c p) (tick c q)
 
     together-next : tick c p ≡ tick c q → Next (pos (c .cycle))
-    together-next e = record {
-      some = omega (ints, v .some-cycle);
-      most = omega ints;
-      lands = inr (omega (ints, diff (pos (c .cycle + tick c q)) (pos (tick c p))));
-    }
+    together-next e = lands-later (v .some-cycle) (omega arith) (omega (arith, e))
 
     -- from a phase to a later one, and to an earlier one, where they do not close together
     on : p ≤ q → tick c p ≢ tick c q → Ticks c p → Ticks c q → Next (pos (c .closing q) -ℤ pos (c .closing p))

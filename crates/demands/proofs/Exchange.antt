@@ -6,7 +6,7 @@ use mathlib.Core.Logic.{_↔_}
 use Prim.Native.Nat.{ℕ, _*_}
 use native.Mathlib.Omega.{arith}
 use lib.IntN.{ℤ}
-use lib.ListN.{length, drop}
+use lib.ListN.{drop}
 use Rattle.image.specs.Checks.{checkOf}
 use Rattle.image.specs.Valid.{imageIn, Valid}
 use Rattle.image.specs.declared.checks.Checked.the-variants.{Good}

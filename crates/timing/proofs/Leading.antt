@@ -12,7 +12,7 @@ use Rattle.image.specs.declared.header.Image.{Image}
 use Rattle.image.specs.declared.records.Arc.{Arc}
 use Rattle.flow.specs.Flow.{Side, late, early}
 use Rattle.circuit.specs.Circuit.{Circuit, circuitOf}
-use Rattle.circuit.specs.Clock.{shift, across, delay, weight}
+use Rattle.circuit.specs.Clock.{across, delay, weight}
 use Rattle.circuit.proofs.Sound.{sound}
 use Rattle.circuit.proofs.Ranges.{across-range}
 use Rattle.timing.specs.inside.Loaded.{Noted, shiftOf, LeadOf, LoadedArc}
