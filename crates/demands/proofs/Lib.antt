@@ -9,6 +9,6 @@ pub mod Loops
 pub mod Explains
 pub mod Refusals
 pub mod Demands
+pub mod Exchange
 pub mod ForC
 pub mod TextToImage
-pub mod Exchange
