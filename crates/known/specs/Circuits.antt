@@ -48,7 +48,7 @@ p9 = laid 100
 unfoldable pub p10 : List ℕ
 p10 = laid 100 (phase 100 40 ∷ []) [] []
 
--- two latches, each on one of two phases, and one arc: the phase of the one that it leaves, and of the one that it enters
+-- two latches on two phases that close together, and one arc: the phase of the latch that it leaves, and of the one that it enters
 abbrev pub pair : ℕ → ℕ → List ℕ
 pair source target =
     laid 100
@@ -70,20 +70,20 @@ p13 = laid 100
     (latch 0 10 5 (5 to 5) ∷ latch 1 10 5 (5 to 5) ∷ [])
     (arc 1 0 (10 to 20) ∷ arc 0 1 (20 to 60) ∷ [])
 
--- three phases, of which the last two close together: their active lengths, and the numbers that they have
-abbrev pub three : List (List ℕ) → ℕ → ℕ → List ℕ
-three lasts second third =
+-- three phases, of which the last two close together, and a way round over two latches and a flip-flop: these two phases, and those of the latches
+abbrev pub around : List (List ℕ) → ℕ → ℕ → List ℕ
+around lasts first second =
     laid 100
     (phase 40 20 ∷ lasts)
-    (latch second 10 5 (5 to 10) ∷ latch third 10 5 (5 to 10) ∷ flipFlop 0 5 5 (8 to 8) ∷ [])
+    (latch first 10 5 (5 to 10) ∷ latch second 10 5 (5 to 10) ∷ flipFlop 0 5 5 (8 to 8) ∷ [])
     (arc 2 0 (20 to 40) ∷ arc 0 1 (30 to 90) ∷ arc 1 2 (10 to 20) ∷ [])
 
 unfoldable pub p14 : List ℕ
-p14 = three (phase 100 50 ∷ phase 100 30 ∷ []) 1 2
+p14 = around (phase 100 50 ∷ phase 100 30 ∷ []) 1 2
 
 -- P14 with these two exchanged
 unfoldable pub p15 : List ℕ
-p15 = three (phase 100 30 ∷ phase 100 50 ∷ []) 2 1
+p15 = around (phase 100 30 ∷ phase 100 50 ∷ []) 2 1
 
 pub data Outcome : Type 0 where
   -- the six results of each synchronizer, how many setups and how many holds are missed, the report
@@ -109,8 +109,8 @@ of-the-pair = timed (
     pos 50 ∷ pos 50 ∷ minus 35 ∷ minus 35 ∷ minus 40 ∷ pos 125 ∷ []) 0 1
     "timed 2 0 1\n0 50 50 - - - -\n1 50 50 -35 -35 -40 125\n"
 
-abbrev pub of-the-three : Outcome
-of-the-three = timed (
+abbrev pub of-the-way-round : Outcome
+of-the-way-round = timed (
     pos 68 ∷ pos 88 ∷ pos 68 ∷ pos 88 ∷ pos 63 ∷ pos 2 ∷
     pos 70 ∷ pos 88 ∷ pos 3 ∷ pos 88 ∷ minus 2 ∷ pos 2 ∷
     pos 100 ∷ pos 100 ∷ pos 45 ∷ pos 78 ∷ pos 40 ∷ pos 17 ∷ []) 0 1
@@ -189,8 +189,8 @@ known =
           pos 50 ∷ pos 50 ∷ minus 25 ∷ pos 15 ∷ minus 30 ∷ pos 75 ∷ []) 0 2
           "timed 2 0 2\n0 50 50 -35 -25 -40 115\n1 50 50 -25 15 -30 75\n";
     } ∷
-    record { number = 14; bytes = p14; outcome = of-the-three } ∷
-    record { number = 15; bytes = p15; outcome = of-the-three } ∷
+    record { number = 14; bytes = p14; outcome = of-the-way-round } ∷
+    record { number = 15; bytes = p15; outcome = of-the-way-round } ∷
     record { number = 14; bytes = p14; outcome = path 2 2 (0 ∷ 1 ∷ 2 ∷ []) } ∷
     record { number = 15; bytes = p15; outcome = path 2 2 (0 ∷ 1 ∷ 2 ∷ []) } ∷
     []
