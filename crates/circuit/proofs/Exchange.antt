@@ -81,7 +81,7 @@ swaps p q = go (eqb q p) refl (eqb q (suc p)) refl
     go false e false f = inr (inr (eqb-false q p e, eqb-false q (suc p) f, refl))
 
 -- exchanged twice, a phase has its number again
-swapped-back : (p q : ℕ) → swapped p (swapped p q) ≡ q
+pub swapped-back : (p q : ℕ) → swapped p (swapped p q) ≡ q
 swapped-back p q = go (swaps p q) (swaps p (swapped p q))
   where
     go : {r s : ℕ} → Swaps p q r → Swaps p r s → s ≡ q
@@ -95,7 +95,7 @@ swapped-back p q = go (swaps p q) (swaps p (swapped p q))
     go (inr (inr x)) (inr (inl y)) = absurd (x .1 (sym (x .2) ∙ y .0))
     go (inr (inr x)) (inr (inr y)) = y .2 ∙ x .2
 
-swapped-below : (p q k : ℕ) → suc p < k → q < k → swapped p q < k
+pub swapped-below : (p q k : ℕ) → suc p < k → q < k → swapped p q < k
 swapped-below p q k h l = go (swaps p q)
   where
     go : {r : ℕ} → Swaps p q r → r < k
@@ -114,7 +114,7 @@ module _ (p : ℕ) (first second : List ℕ) (x : Exchanged p first second) wher
   close = omega (arith, x .close)
 
   -- a phase of the second, by its old number
-  phase-was : (q : ℕ) → q < k → phaseIn second q ≡ phaseIn first (swapped p q)
+  pub phase-was : (q : ℕ) → q < k → phaseIn second q ≡ phaseIn first (swapped p q)
   phase-was q l = ap (phaseIn second) (sym (swapped-back p q)) ∙ x .phase (swapped p q) (swapped-below p q k here l)
 
   -- phases of one number close at one time
@@ -126,23 +126,23 @@ module _ (p : ℕ) (first second : List ℕ) (x : Exchanged p first second) wher
       go (inr (inl h)) = rw (h .0, h .1) close
       go (inr (inr h)) = rw (h .2)
 
-  closing-same : (q : ℕ) → q < k → phaseIn second q .closing ≡ phaseIn first q .closing
+  pub closing-same : (q : ℕ) → q < k → phaseIn second q .closing ≡ phaseIn first q .closing
   closing-same q l = ap (λ (r : Phase). r .closing) (phase-was q l) ∙ closing-stays q
 
   -- what the header says
   pub exchanged-image : imageIn second ≡ imageIn first
   exchanged-image = ap imageOf (x .header)
 
-  phases-same : imageIn second .phases ≡ k
+  pub phases-same : imageIn second .phases ≡ k
   phases-same = ap (λ (i : Image). i .phases) exchanged-image
 
-  synchronizers-same : imageIn second .synchronizers ≡ imageIn first .synchronizers
+  pub synchronizers-same : imageIn second .synchronizers ≡ imageIn first .synchronizers
   synchronizers-same = ap (λ (i : Image). i .synchronizers) exchanged-image
 
-  arcs-same : imageIn second .arcs ≡ imageIn first .arcs
+  pub arcs-same : imageIn second .arcs ≡ imageIn first .arcs
   arcs-same = ap (λ (i : Image). i .arcs) exchanged-image
 
-  cycle-same : imageIn second .cycle ≡ imageIn first .cycle
+  pub cycle-same : imageIn second .cycle ≡ imageIn first .cycle
   cycle-same = ap (λ (i : Image). i .cycle) exchanged-image
 
   pub exchanged-back : Exchanged p second first

@@ -6,6 +6,7 @@ pub mod Ranges
 pub mod Solved
 pub mod Unique
 pub mod Exchange
+pub mod ExchangeRefused
 pub mod Sizes
 pub mod Narrowing
 pub mod Changes

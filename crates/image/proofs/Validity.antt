@@ -25,7 +25,7 @@ good-iff : (b : Bool) (rule culprit : ℕ) (rest : Checked) (x : Image) → (ref
 good-iff true rule culprit rest x = (λ h. (cc, cc), λ h. cc)
 good-iff false rule culprit rest x = (λ h. (refl, h), λ h. h .1)
 
-none-iff : (bad : ℕ → Bool) (n : ℕ) → (ltb (lowestOf bad n) n ≡ false) ↔ ((i : ℕ) → i < n → bad i ≡ false)
+pub none-iff : (bad : ℕ → Bool) (n : ℕ) → (ltb (lowestOf bad n) n ≡ false) ↔ ((i : ℕ) → i < n → bad i ≡ false)
 none-iff bad n = (λ h i l. lowest-is bad n .passed i (omega (arith, ltb-false (lowestOf bad n) n h)), λ h. le-ltb (lowestOf bad n) n (omega (arith, lowest-none bad n h)))
 
 back : (i : ℕ) → suc i - 1 ≡ i
@@ -115,7 +115,7 @@ module _ (bytes : List ℕ) where
   cycle-iff = or-iff _ _ (ltb-iff _ _) (ltb-iff _ _)
 
   module _ (i : ℕ) where
-    phase-iff : (badPhase bytes (imageIn bytes) i ≡ false) ↔
+    pub phase-iff : (badPhase bytes (imageIn bytes) i ≡ false) ↔
         ((((phaseIn bytes i .active ≤ imageIn bytes .cycle)
         × (phaseIn bytes i .closing ≤ imageIn bytes .cycle))
         × (0 < i → phaseIn bytes (i - 1) .closing ≤ phaseIn bytes i .closing))
