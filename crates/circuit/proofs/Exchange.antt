@@ -107,15 +107,15 @@ module _ (p : ℕ) (first second : List ℕ) (x : Exchanged p first second) wher
   abbrev k : ℕ
   k = imageIn first .phases
 
-  here : suc p < k
-  here = omega (arith, x .here)
+  pub both-there : suc p < k
+  both-there = omega (arith, x .here)
 
   close : phaseIn first p .closing ≡ phaseIn first (suc p) .closing
   close = omega (arith, x .close)
 
   -- a phase of the second, by its old number
   pub phase-was : (q : ℕ) → q < k → phaseIn second q ≡ phaseIn first (swapped p q)
-  phase-was q l = ap (phaseIn second) (sym (swapped-back p q)) ∙ x .phase (swapped p q) (swapped-below p q k here l)
+  phase-was q l = ap (phaseIn second) (sym (swapped-back p q)) ∙ x .phase (swapped p q) (swapped-below p q k both-there l)
 
   -- phases of one number close at one time
   closing-stays : (q : ℕ) → phaseIn first (swapped p q) .closing ≡ phaseIn first q .closing
@@ -150,7 +150,7 @@ module _ (p : ℕ) (first second : List ℕ) (x : Exchanged p first second) wher
     header = sym (x .header);
     long = sym (x .long);
     here = omega (arith, x .here, phases-same);
-    close = omega (arith, x .close, closing-same p (omega (arith, here)), closing-same (suc p) here);
+    close = omega (arith, x .close, closing-same p (omega (arith, both-there)), closing-same (suc p) both-there);
     phase = λ q l. sym (phase-was q (rw phases-same at l));
     synchronizer = λ i l. rw (x .synchronizer i (rw synchronizers-same at l), swapped-back p (synchronizerIn first i .phase)) refl;
     arc = λ a l. sym (x .arc a (rw arcs-same at l));
@@ -171,14 +171,14 @@ module _ (p : ℕ) (first second : List ℕ) (x : Exchanged p first second) wher
     arc-table = rw (x .header) (v .arc-table);
     total = rw (x .header, x .long) (v .total);
     phase = λ q l. let m : q < k = rw phases-same at l in
-        rw (phase-was q m, cycle-same) (v .phase (swapped p q) (swapped-below p q k here m));
+        rw (phase-was q m, cycle-same) (v .phase (swapped p q) (swapped-below p q k both-there m));
     rising = λ q l. let m : suc q < k = rw phases-same at l in
         rw (closing-same q (omega arith), closing-same (suc q) m) (v .rising q m);
     last = λ q e. let f : suc q ≡ k = e ∙ phases-same in closing-same q (omega arith) ∙ v .last q f ∙ sym cycle-same;
     synchronizer = λ i l. let m : i < imageIn first .synchronizers = rw synchronizers-same at l in
         let h = v .synchronizer i m in
         rw (x .synchronizer i m, cycle-same, phases-same) (record {
-          phase = swapped-below p (synchronizerIn first i .phase) k here (h .phase);
+          phase = swapped-below p (synchronizerIn first i .phase) k both-there (h .phase);
           kind = h .kind;
           setup = h .setup;
           hold = h .hold;
@@ -217,7 +217,7 @@ module _ (p : ℕ) (first second : List ℕ) (x : Exchanged p first second) wher
 
     there : (q : ℕ) → q < c .phases → swapped p q < d .phases
     unfolding circuitOf
-    there q l = rw phases-same (swapped-below p q k here l)
+    there q l = rw phases-same (swapped-below p q k both-there l)
 
     from-same : (a : ℕ) → a < c .arcs → d .from a ≡ c .from a
     unfolding circuitOf

@@ -19,7 +19,7 @@ use Rattle.image.proofs.Tests.{leb-iff}
 use Rattle.image.proofs.FirstBad.{lowest-is, lowest-eq}
 use Rattle.image.proofs.Validity.{none-iff, phase-iff}
 use Rattle.circuit.specs.Exchange.{swapped, Exchanged}
-use Rattle.circuit.proofs.Exchange.{swapped-back, swapped-below, phase-was, closing-same, phases-same, synchronizers-same, arcs-same, cycle-same, exchanged-back}
+use Rattle.circuit.proofs.Exchange.{swapped-back, swapped-below, both-there, phase-was, closing-same, phases-same, synchronizers-same, arcs-same, cycle-same, exchanged-back}
 
 -- a refusal stays, with its rule, and with its record unless the rule is that of phases
 abbrev Kept : Checked → Checked → Type 0
@@ -71,7 +71,7 @@ phases-pass : (p : ℕ) (first second : List ℕ) → Exchanged p first second �
 phases-pass p first second x pass q l =
     let m : q < imageIn first .phases = rw (phases-same p first second x) at l in
     let here = phase-iff first q .0 (pass q m) in
-    let was = phase-iff first (swapped p q) .0 (pass (swapped p q) (swapped-below p q _ (x .here) m)) in
+    let was = phase-iff first (swapped p q) .0 (pass (swapped p q) (swapped-below p q _ (both-there p first second x) m)) in
     let closing = closing-same p first second x q m in
     let tc = cycle-same p first second x in
     phase-iff second q .1 (
@@ -91,7 +91,7 @@ module _ (p : ℕ) (first second : List ℕ) (x : Exchanged p first second) wher
       badSynchronizer second (imageIn second) i ≡ badSynchronizer first (imageIn first) i
   unfolding badSynchronizer
   synchronizer-test i l =
-      let within = swapped-within p (synchronizerIn first i .phase) (imageIn first .phases) (x .here) in
+      let within = swapped-within p (synchronizerIn first i .phase) (imageIn first .phases) (both-there p first second x) in
       rw (x .synchronizer i l, cycle-same p first second x, phases-same p first second x, within)
 
   arc-test : (i : ℕ) → i < imageIn first .arcs → badArc second (imageIn second) i ≡ badArc first (imageIn first) i

@@ -23,6 +23,7 @@ use Rattle.circuit.specs.Times.{Times, missedSetups, missedHolds, results}
 use Rattle.circuit.proofs.Sound.{sound, good}
 use Rattle.circuit.proofs.Unique.{Alike, results-alike, setups-alike, holds-alike}
 use Rattle.circuit.proofs.Exchange.{exchanged-back, exchanged-image, exchanged-valid, exchanged-alike}
+use Rattle.circuit.proofs.ExchangeRefused.{exchanged-refused}
 use Rattle.timing.specs.TimingPromise as timing
 use Rattle.timing.specs.TimingPromise.{Served, Timing}
 use Rattle.timing.specs.PathPromise as path
@@ -117,6 +118,7 @@ module _ (p : ℕ) (first second : List ℕ) where
     back = exchanged-back p first second;
     valid = λ x. (exchanged-valid p first second x, exchanged-valid p second first (exchanged-back p first second x));
     check = λ x v. good-too p first second x v ∙ ap Good (exchanged-image p first second x) ∙ sym (accepted p first second x v);
+    refused = λ x e. exchanged-refused p first second x e;
     timing = either-way _ (λ a b x v. timing-carried p a b x v numbers arcs);
     path = either-way _ (λ a b x v. path-carried p a b x v numbers arcs i);
     report = either-way _ (λ a b x v. report-carried p a b x v text);

@@ -9,7 +9,7 @@ use Rattle.timing.proofs.OnePath.{path-some}
 use Rattle.text.proofs.OneOutcome.{text-one}
 use Rattle.text.proofs.SomeOutcome.{text-some}
 use Rattle.interface.specs.Answers.{timingAnswer, pathAnswer, textAnswer}
-use Rattle.interface.specs.Promise.{CheckForC, TimingForC, PathForC, blank, copied, ReportForC, TextForC}
+use Rattle.interface.specs.Promise.{CheckForC, TimingForC, PathForC, blank, ReportForC, TextForC}
 use Rattle.interface.specs.declared.check_answer.CheckAnswer.{CheckAnswer}
 use Rattle.interface.specs.declared.timing_answer.TimingAnswer.{TimingAnswer}
 use Rattle.interface.specs.declared.path_answer.PathAnswer.{PathAnswer}

@@ -100,6 +100,9 @@ pub record PhasesExchanged (p : ℕ) (first second : List ℕ) (numbers : List �
   -- if one is valid so is the other, and the check gives the same of both
   pub valid : Exchanged p first second → Valid first ↔ Valid second
   pub check : Exchanged p first second → Valid first → checkOf second ≡ checkOf first
+  -- an image that is refused stays refused by the same rule; and for the same record, but where phases are at fault, which is rule 6
+  pub refused : {rule n : ℕ} → Exchanged p first second → checkOf first ≡ check.Refused rule n →
+      (m : ℕ) × (checkOf second ≡ check.Refused rule m) × ((m ≡ n) ⊎ (rule ≡ 6))
   -- no time, slack or verdict changes, nor a growing ring or its gain: what timing may answer of one and leave in its buffers, it may of the other
   pub timing : {X : Answer} {R : List ℤ} {A : List ℕ} → Exchanged p first second → Valid first →
       Timing first numbers arcs X R A ↔ Timing second numbers arcs X R A
