@@ -117,7 +117,7 @@ module _ (p : ℕ) (first second : List ℕ) where
   phases-exchanged numbers arcs text i = record {
     back = exchanged-back p first second;
     valid = λ x. (exchanged-valid p first second x, exchanged-valid p second first (exchanged-back p first second x));
-    check = λ x v. good-too p first second x v ∙ ap Good (exchanged-image p first second x) ∙ sym (accepted p first second x v);
+    checked = λ x v. good-too p first second x v ∙ ap Good (exchanged-image p first second x) ∙ sym (accepted p first second x v);
     refused = λ x e. exchanged-refused p first second x e;
     timing = either-way _ (λ a b x v. timing-carried p a b x v numbers arcs);
     path = either-way _ (λ a b x v. path-carried p a b x v numbers arcs i);

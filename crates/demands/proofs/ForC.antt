@@ -54,7 +54,7 @@ module _ (text before : List ℕ) where
 -- what a call for C gives of an image, it gives of the image with two phases exchanged
 module _ (p : ℕ) (first second : List ℕ) (x : Exchanged p first second) (v : Valid first) where
   pub check-exchanged : {given : CheckAnswer} → CheckForC first given → CheckForC second given
-  check-exchanged c = record { answer = c .answer; kept = c .kept ∙ sym (phases-exchanged p first second [] [] [] 0 .check x v); told = c .told }
+  check-exchanged c = record { answer = c .answer; kept = c .kept ∙ sym (phases-exchanged p first second [] [] [] 0 .checked x v); told = c .told }
 
   pub timing-exchanged : {numbers R : List ℤ} {arcs A : List ℕ} {given : TimingAnswer} → TimingForC first numbers arcs given R A →
       TimingForC second numbers arcs given R A

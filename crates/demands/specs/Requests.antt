@@ -99,7 +99,7 @@ pub record PhasesExchanged (p : ℕ) (first second : List ℕ) (numbers : List �
   pub back : Exchanged p first second → Exchanged p second first
   -- if one is valid so is the other, and the check gives the same of both
   pub valid : Exchanged p first second → Valid first ↔ Valid second
-  pub check : Exchanged p first second → Valid first → checkOf second ≡ checkOf first
+  pub checked : Exchanged p first second → Valid first → checkOf second ≡ checkOf first
   -- an image that is refused stays refused by the same rule; and for the same record, but where phases are at fault, which is rule 6
   pub refused : {rule n : ℕ} → Exchanged p first second → checkOf first ≡ check.Refused rule n →
       (m : ℕ) × (checkOf second ≡ check.Refused rule m) × ((m ≡ n) ⊎ (rule ≡ 6))
