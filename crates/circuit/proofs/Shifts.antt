@@ -87,7 +87,7 @@ pub shift-self : (c : Circuit) (p : ℕ) → shift c p p ≡ pos (c .cycle)
 shift-self c p = shift-together c p p refl
 
 -- a phase that closes at Tc closes at tick 0, any other at its own
-abbrev pub Ticks : Circuit → ℕ → Type 0
+abbrev Ticks : Circuit → ℕ → Type 0
 Ticks c p = ((c .closing p ≡ c .cycle) × (tick c p ≡ 0)) ⊎ ((c .closing p < c .cycle) × (tick c p ≡ c .closing p))
 
 -- a number that is not above another, and not the same, is below it
@@ -98,7 +98,7 @@ strictly {a} {b} h d = elim (decLt a b) [
 ]
 
 module _ (c : Circuit) (v : Sound c) where
-  pub ticks : (p : ℕ) → p < c .phases → Ticks c p
+  ticks : (p : ℕ) → p < c .phases → Ticks c p
   unfolding tick
   ticks p l = go (eqb (c .closing p) (c .cycle)) refl
     where
@@ -106,6 +106,13 @@ module _ (c : Circuit) (v : Sound c) where
           ((c .closing p ≡ c .cycle) × (cond b 0 (c .closing p) ≡ 0)) ⊎ ((c .closing p < c .cycle) × (cond b 0 (c .closing p) ≡ c .closing p))
       go true e = inl (eqb-true _ _ e, refl)
       go false e = inr (strictly (v .closing p l) (eqb-false _ _ e), refl)
+
+  pub tick-below : (p : ℕ) → p < c .phases → tick c p < c .cycle
+  tick-below p l = go (ticks p l)
+    where
+      go : Ticks c p → tick c p < c .cycle
+      go (inl x) = omega (arith, v .some-cycle)
+      go (inr x) = omega arith
 
   module _ (p q : ℕ) (l : p < c .phases) (m : q < c .phases) where
     abbrev Next : ℤ → Type 0

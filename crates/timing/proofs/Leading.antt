@@ -14,6 +14,7 @@ use Rattle.flow.specs.Flow.{Side, late, early}
 use Rattle.circuit.specs.Circuit.{Circuit, circuitOf}
 use Rattle.circuit.specs.Clock.{across, delay, weight}
 use Rattle.circuit.proofs.Sound.{sound}
+use Rattle.circuit.proofs.Shifts.{tick-below}
 use Rattle.circuit.proofs.Ranges.{across-range}
 use Rattle.timing.specs.inside.Loaded.{Noted, shiftOf, LeadOf, LoadedArc}
 use Rattle.timing.proofs.RecordsRead.{OfArc, counts, of-arc, most-phases}
@@ -29,17 +30,18 @@ leads s c a d x e h k w q = record {
   small = omega arith;
 }
 
--- what is known once an arc is read: it leads from p to q, and no sum is large
-pub record Ends (r : Arc) (p q low high : ℕ) : Type 0 where
+-- what is known once an arc is read: it leads from p to q, p closes at tick x, and no sum is large
+pub record Ends (cycle : ℕ) (r : Arc) (p q x low high : ℕ) : Type 0 where
   pub from : r .from < NODES
   pub to : r .to < NODES
   pub phases : (p < PHASES) × (q < PHASES)
+  pub left : x ≤ cycle
   pub late : high + r .greatest ≤ 2000000000
   pub early : low + r .least ≤ 2000000000
 
 module _ {bytes : List ℕ} (v : Valid bytes) {image : Image} (same : image ≡ imageIn bytes) {a : ℕ} (l : a < image .arcs)
-    {r : Arc} (of : r ≡ arcAt bytes (image .layout) a) {closings phases leasts greatests : List ℕ}
-    (n : Noted (circuitOf bytes) closings phases leasts greatests) where
+    {r : Arc} (of : r ≡ arcAt bytes (image .layout) a) {ticks phases leasts greatests : List ℕ}
+    (n : Noted (circuitOf bytes) ticks phases leasts greatests) where
   here : a < circuitOf bytes .arcs
   here = omega (arith, counts bytes image same .arcs)
 
@@ -64,7 +66,8 @@ module _ {bytes : List ℕ} (v : Valid bytes) {image : Image} (same : image ≡ 
   greatest-is : getD greatests (r .from) 0 ≡ circuitOf bytes .greatest (circuitOf bytes .from a)
   greatest-is = rw (arc-is .from) (n .greatest .holds (circuitOf bytes .from a) leaves)
 
-  pub ends-known : Ends r (getD phases (r .from) 0) (getD phases (r .to) 0) (getD leasts (r .from) 0) (getD greatests (r .from) 0)
+  pub ends-known : Ends (image .cycle) r (getD phases (r .from) 0) (getD phases (r .to) 0) (getD ticks (getD phases (r .from) 0) 0) (getD leasts (r .from) 0)
+      (getD greatests (r .from) 0)
   ends-known =
       let c = sound bytes v in
       let p = c .phase _ leaves in
@@ -74,6 +77,7 @@ module _ {bytes : List ℕ} (v : Valid bytes) {image : Image} (same : image ≡ 
         from = omega (arith, arc-is .from, leaves, c .synchronizers);
         to = omega (arith, arc-is .to, enters, c .synchronizers);
         phases = (omega (arith, left-is, p, most-phases bytes v), omega (arith, entered-is, q, most-phases bytes v));
+        left = rw (left-is, n .tick .holds _ p, counts bytes image same .cycle) (omega (arith, tick-below (circuitOf bytes) c _ p));
         late = omega (arith, greatest-is, arc-is .greatest);
         early = omega (arith, least-is, arc-is .least, c .least _ leaves, c .shortest a here);
       }
@@ -81,14 +85,14 @@ module _ {bytes : List ℕ} (v : Valid bytes) {image : Image} (same : image ≡ 
   pub target-known : r .to ≡ circuitOf bytes .to a
   target-known = arc-is .to
 
-  -- x is worked out from when the two phases close
-  module _ {x : ℕ} (worked : x ≡ shiftOf (image .cycle) (getD closings (getD phases (r .from) 0) 0) (getD closings (getD phases (r .to) 0) 0)) where
+  -- x is worked out from the ticks at which the two phases close
+  module _ {x : ℕ} (worked : x ≡ shiftOf (image .cycle) (getD ticks (getD phases (r .from) 0) 0) (getD ticks (getD phases (r .to) 0) 0)) where
     shift-is : pos x ≡ across (circuitOf bytes) a
     shift-is =
         let c = sound bytes v in
         let p = c .phase _ leaves in
         let q = c .phase _ enters in
-        rw (worked, left-is, entered-is, n .closing .holds _ p, n .closing .holds _ q, counts bytes image same .cycle) (shifted (circuitOf bytes) c _ _ p q)
+        rw (worked, left-is, entered-is, n .tick .holds _ p, n .tick .holds _ q, counts bytes image same .cycle) (shifted (circuitOf bytes) c _ _ p q)
 
     pub back-known : (x ≤ image .cycle) × (image .cycle ≤ 1000000000)
     back-known =

@@ -1,9 +1,12 @@
 // Loading: from the records of a good image to the tables that the engine works on.
+ghost use mathlib.Core.Bool.{cond};
 ghost use mathlib.Core.Path.{_≡_};
 ghost use Prim.Native.Nat.{_+_, _-_, _≤_, _<_};
+ghost use lib.Dec.{eqb};
 ghost use lib.ListN.{length};
 ghost use Rattle.image.specs.Valid.{Valid, imageIn};
 ghost use Rattle.circuit.specs.Circuit.{Circuit, circuitOf};
+ghost use Rattle.circuit.specs.Clock.{tick};
 ghost use Rattle.tables.specs.inside.Filled.{Filled};
 ghost use Rattle.timing.specs.inside.Loaded.{Launched, Noted, shiftOf, LoadedArc, Spread, LoadedNodes, LoadedArcs, LoadedFirst, Sized, Loaded};
 ghost use Rattle.tables.specs.inside.Sizes.{ARCS, FIRSTS, NODES, PHASES};
@@ -35,14 +38,21 @@ struct Lead {
     early: u32,
 }
 
-// When each phase closes, and how long it is active before that.
-fn load_phases(bytes: &[u8], image: Image, closing: &mut [u32; PHASES], active: &mut [u32; PHASES])
+// The tick of the cycle at which a phase closes: Tc is tick 0 of the next cycle.
+fn tick(cycle: u32, closing: u32) -> u32
+    ensures { λ r. ⌜ r ≡ cond (eqb closing cycle) 0 closing ⌝ }
+{
+    if closing == cycle { 0 } else { closing }
+}
+
+// When each phase closes, as a tick of the cycle, and how long it is active before that.
+fn load_phases(bytes: &[u8], image: Image, ticks: &mut [u32; PHASES], active: &mut [u32; PHASES])
     ghost { Circuit }
     requires { λ c. ⌜ circuitOf (now bytes) ≡ c ⌝ }
     requires { λ c. ⌜ Valid (now bytes) ⌝ }
     requires { λ c. ⌜ image ≡ imageIn (now bytes) ⌝ }
-    requires { λ c. ⌜ (length (now closing) ≡ PHASES) × (length (now active) ≡ PHASES) ⌝ }
-    ensures { λ c r. ⌜ Filled PHASES (c .closing) (now (closing .exit)) (c .phases) ⌝ }
+    requires { λ c. ⌜ (length (now ticks) ≡ PHASES) × (length (now active) ≡ PHASES) ⌝ }
+    ensures { λ c r. ⌜ Filled PHASES (tick c) (now (ticks .exit)) (c .phases) ⌝ }
     ensures { λ c r. ⌜ Filled PHASES (c .active) (now (active .exit)) (c .phases) ⌝ }
 {
     let layout = image.layout;
@@ -50,7 +60,7 @@ fn load_phases(bytes: &[u8], image: Image, closing: &mut [u32; PHASES], active: 
     while p < image.phases {
         let phase = Phase::read(bytes, layout, p);
         let at = p as usize;
-        closing[at] = phase.closing;
+        ticks[at] = tick(image.cycle, phase.closing);
         active[at] = phase.active;
         p += 1;
     }
@@ -123,24 +133,20 @@ fn load_nodes(
     }
 }
 
-// The shift (docs/RULES.md, "The equations") from a phase that closes at x to one that closes at y. It is told by when they close: the numbers of
+// The shift (docs/RULES.md, "The equations") from a phase that closes at tick x to one that closes at tick y: to the next y after x. The numbers of
 // the phases are not asked.
 fn shift(cycle: u32, x: u32, y: u32) -> u32
+    requires { ⌜ x ≤ cycle ⌝ }
     ensures { λ r. ⌜ r ≡ shiftOf cycle x y ⌝ }
 {
-    if x < y {
-        y - x
-    } else {
-        let back = x - y;
-        if back < cycle { cycle - back } else { cycle }
-    }
+    if x < y { y - x } else { cycle - (x - y) }
 }
 
 // An arc's leads: delay + cycle - shift, which is never below zero, as no shift exceeds the cycle.
 fn led(
     bytes: &[u8],
     image: Image,
-    closing: &[u32; PHASES],
+    ticks: &[u32; PHASES],
     phase: &[u8; NODES],
     least: &[u32; NODES],
     greatest: &[u32; NODES],
@@ -151,7 +157,7 @@ fn led(
     requires { λ c. ⌜ Valid (now bytes) ⌝ }
     requires { λ c. ⌜ image ≡ imageIn (now bytes) ⌝ }
     requires { λ c. ⌜ a < image .arcs ⌝ }
-    requires { λ c. ⌜ Noted c (now closing) (now phase) (now least) (now greatest) ⌝ }
+    requires { λ c. ⌜ Noted c (now ticks) (now phase) (now least) (now greatest) ⌝ }
     ensures { λ c r. ⌜ LoadedArc c a (r .source) (r .late) (r .early) ⌝ }
     ensures { λ c r. ⌜ r .target ≡ c .to a ⌝ }
 {
@@ -161,7 +167,7 @@ fn led(
     let p = phase[from];
     let q = phase[to];
     let cycle = image.cycle;
-    let back = cycle - shift(cycle, closing[p as usize], closing[q as usize]);
+    let back = cycle - shift(cycle, ticks[p as usize], ticks[q as usize]);
     Lead {
         source: narrow(from),
         target: to,
@@ -186,7 +192,7 @@ fn enter(first: &mut [u16; FIRSTS], from: usize, to: usize, a: u16)
 fn load_arcs(
     bytes: &[u8],
     image: Image,
-    closing: &[u32; PHASES],
+    ticks: &[u32; PHASES],
     phase: &[u8; NODES],
     least: &[u32; NODES],
     greatest: &[u32; NODES],
@@ -198,7 +204,7 @@ fn load_arcs(
     ghost { Circuit }
     requires { λ c. ⌜ circuitOf (now bytes) ≡ c ⌝ }
     requires { λ c. ⌜ Valid (now bytes) × (image ≡ imageIn (now bytes)) ⌝ }
-    requires { λ c. ⌜ Noted c (now closing) (now phase) (now least) (now greatest) ⌝ }
+    requires { λ c. ⌜ Noted c (now ticks) (now phase) (now least) (now greatest) ⌝ }
     requires { λ c. ⌜ (length (now source) ≡ ARCS) × (length (now late) ≡ ARCS) × (length (now early) ≡ ARCS) × (length (now first) ≡ FIRSTS) ⌝ }
     ensures { λ c _. ⌜ LoadedArcs c (now (source .exit)) (now (late .exit)) (now (early .exit)) ⌝ }
     ensures { λ c _. ⌜ LoadedFirst c (now (first .exit)) ⌝ }
@@ -207,7 +213,7 @@ fn load_arcs(
     let mut entered: usize = 0;
     let mut a: u32 = 0;
     while a < image.arcs {
-        let loaded = led(bytes, image, closing, phase, least, greatest, a);
+        let loaded = led(bytes, image, ticks, phase, least, greatest, a);
         let at = a as usize;
         source[at] = loaded.source;
         late[at] = loaded.late;
@@ -242,12 +248,12 @@ pub(crate) fn load(
     requires { λ c. ⌜ Sized (now source) (now late) (now early) (now first) (now launch) (now latch) ⌝ }
     ensures { λ c _. ⌜ Loaded c (now (source .exit)) (now (late .exit)) (now (early .exit)) (now (first .exit)) (now (launch .exit)) (now (latch .exit)) ⌝ }
 {
-    let mut closing = [0u32; PHASES];
+    let mut ticks = [0u32; PHASES];
     let mut active = [0u32; PHASES];
     let mut phase = [0u8; NODES];
     let mut least = [0u32; NODES];
     let mut greatest = [0u32; NODES];
-    load_phases(bytes, image, &mut closing, &mut active);
+    load_phases(bytes, image, &mut ticks, &mut active);
     load_nodes(
         bytes,
         image,
@@ -261,7 +267,7 @@ pub(crate) fn load(
     load_arcs(
         bytes,
         image,
-        &closing,
+        &ticks,
         &phase,
         &least,
         &greatest,

@@ -9,7 +9,7 @@ use lib.ListN.{length, getD}
 use Rattle.ticks.specs.inside.Raised.{RAISE, lower}
 use Rattle.flow.specs.Flow.{Side, late, early}
 use Rattle.circuit.specs.Circuit.{Circuit}
-use Rattle.circuit.specs.Clock.{isLatch, launch, weight}
+use Rattle.circuit.specs.Clock.{tick, isLatch, launch, weight}
 use Rattle.tables.specs.inside.Filled.{Filled}
 use Rattle.tables.specs.inside.Models.{SideBySide}
 use Rattle.tables.specs.inside.Net.{timesOf}
@@ -29,16 +29,15 @@ abbrev pub LoadedNodes : Circuit → List ℕ → List ℕ → Type 0
 LoadedNodes c = NodesUpTo (c .synchronizers) c
 
 -- what is noted of the phases and of the synchronizers while the arcs are loaded
-pub record Noted (c : Circuit) (closings phases leasts greatests : List ℕ) : Type 0 where
-  pub closing : Filled PHASES (c .closing) closings (c .phases)
+pub record Noted (c : Circuit) (ticks phases leasts greatests : List ℕ) : Type 0 where
+  pub tick : Filled PHASES (tick c) ticks (c .phases)
   pub phase : Filled NODES (c .phase) phases (c .synchronizers)
   pub least : Filled NODES (c .least) leasts (c .synchronizers)
   pub greatest : Filled NODES (c .greatest) greatests (c .synchronizers)
 
--- the shift from a phase that closes at x to one that closes at y, in numbers that are never below zero. For the phases of a sound circuit it is the
--- circuit's (`shifted`, proofs/Shifts)
+-- the shift from a phase that closes at tick x to one that closes at tick y. For the phases of a sound circuit it is the circuit's (`shifted`, proofs/Shifts)
 unfoldable pub shiftOf : ℕ → ℕ → ℕ → ℕ
-shiftOf cycle x y = cond (ltb x y) (y - x) (cond (ltb (x - y) cycle) (cycle - (x - y)) cycle)
+shiftOf cycle x y = cond (ltb x y) (y - x) (cycle - (x - y))
 
 -- an arc's weight, late or early, with a cycle added
 pub record LeadOf (s : Side) (c : Circuit) (a lead : ℕ) : Type 0 where

@@ -7,10 +7,12 @@ use Rattle.timing.proofs.Leading.{Ends, ends-known, target-known, back-
 use Rattle.timing.proofs.load.led.Statement.{statement}
 use Rattle.timing.proofs.load.led.Tie as tie
 
--- the phases of the arc's two ends, and the delays of the one that it leaves
+-- the phases of the arc's two ends, the tick at which the first closes, and the delays of the synchronizer that it leaves
 ends : (c : tie.After-of) →
-    Ends (c .of .result) (getD (c .before .before .args .phase .now) (c .of .result .from) 0) (getD (c .before .before .args .phase .now) (c .of .result .to) 0)
-    (getD (c .before .before .args .least .now) (c .of .result .from) 0) (getD (c .before .before .args .greatest .now) (c .of .result .from) 0)
+    let a = c .before .before .args in
+    let p = getD (a .phase .now) (c .of .result .from) 0 in
+    Ends (a .image .cycle) (c .of .result) p (getD (a .phase .now) (c .of .result .to) 0) (getD (a .ticks .now) p 0)
+    (getD (a .least .now) (c .of .result .from) 0) (getD (a .greatest .now) (c .of .result .from) 0)
 ends c = let e = c .before .before .pre in ends-known (e .0) (e .1 .0) (e .1 .1 .0) (c .of .ensures) (e .1 .1 .1)
 
 -- once the shift is known
@@ -51,6 +53,9 @@ mul-shift-2 c = omega (arith, ends (c .before .before .before .before .before) .
 
 element-copy-out-shift-2 : tie.Need-element-copy-out-shift-2
 element-copy-out-shift-2 c = omega (arith, ends (c .before .before .before .before .before) .phases .1)
+
+shift-requires : tie.Need-shift-requires
+shift-requires c κs = ends (c .before .before .before .before .before .before) .left
 
 sub-back : tie.Need-sub-back
 sub-back c = back c .0
@@ -95,5 +100,5 @@ returns c =
 pub led-spec : {M : Type 1} → statement M
 led-spec = tie.close (tie.spec
     (λ c κs. search needs) cast-from cast-to element-copy-out-p element-copy-out-q cast-shift mul-shift element-copy-out-shift cast-shift-2
-    mul-shift-2 element-copy-out-shift-2 (λ c κs. tt) sub-back narrow-requires mul-t21 element-copy-out-t20 add-t30 add-t25 mul-t27
+    mul-shift-2 element-copy-out-shift-2 shift-requires sub-back narrow-requires mul-t21 element-copy-out-t20 add-t30 add-t25 mul-t27
     element-copy-out-t36 add-t37 add-t38 returns)

@@ -19,7 +19,7 @@ load-arcs-requires c κs =
     let e = p .before .before .before .before .pre in
     let h = k .load-nodes .ensures .1 in
     let a = e .1 .arcs in
-    (e .0, (record { closing = p .load-phases .ensures .0; phase = h .0; least = h .1 .0; greatest = h .1 .1 }, (a .0, a .1, a .2, e .1 .firsts)))
+    (e .0, (record { tick = p .load-phases .ensures .0; phase = h .0; least = h .1 .0; greatest = h .1 .1 }, (a .0, a .1, a .2, e .1 .firsts)))
 
 returns : tie.Need-returns
 returns c = record {

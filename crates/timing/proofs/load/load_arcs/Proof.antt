@@ -16,12 +16,12 @@ use Rattle.tables.specs.inside.Sizes.{ARCS, NODES}
 
 -- the first a arcs are loaded; and what the circuit has fits the tables
 abbrev Inv-loop : tie.InvT-loop
-Inv-loop bytes image closing phase least greatest source₀ late₀ early₀ first₀ entered₀ a₀ source late early first entered a =
+Inv-loop bytes image ticks phase least greatest source₀ late₀ early₀ first₀ entered₀ a₀ source late early first entered a =
     (a ≤ image .arcs) × (image .arcs ≤ ARCS) × (image .synchronizers ≤ NODES)
     × ArcsUpTo a (circuitOf bytes) source late early × Entered (circuitOf bytes) a entered first
 
 abbrev μ-loop : tie.MeasureT-loop
-μ-loop bytes image closing phase least greatest source₀ late₀ early₀ first₀ entered₀ a₀ source late early first entered a = image .arcs - a
+μ-loop bytes image ticks phase least greatest source₀ late₀ early₀ first₀ entered₀ a₀ source late early first entered a = image .arcs - a
 
 -- the next arc is one of the circuit's
 here : (c : tie.Then1 Inv-loop μ-loop) → c .before .before .loop .a < circuitOf (c .before .before .before .before .args .bytes .now) .arcs

@@ -1,9 +1,12 @@
 -- `load_phases` loads the phases one by one.
-use Prim.Native.Nat.{_≤_, _-_}
-use mathlib.Core.Path.{_≡_}
+use Prim.Native.Nat.{ℕ, _≤_, _-_}
+use mathlib.Core.Bool.{cond}
+use mathlib.Core.Path.{_≡_, _∙_}
 use native.Mathlib.Omega.{arith}
+use lib.Dec.{eqb}
 use borrow.Author.Needs.{needs}
-use Rattle.circuit.specs.Circuit.{circuitOf}
+use Rattle.circuit.specs.Circuit.{Circuit, circuitOf}
+use Rattle.circuit.specs.Clock.{tick}
 use Rattle.tables.specs.inside.Filled.{Filled}
 use Rattle.tables.proofs.Filled.{fill-none}
 use Rattle.timing.proofs.RecordsRead.{counts, of-phase, most-phases}
@@ -12,12 +15,17 @@ use Rattle.timing.proofs.load.load_phases.Statement.{statement}
 use Rattle.timing.proofs.load.load_phases.Tie as tie
 use Rattle.tables.specs.inside.Sizes.{PHASES}
 
+-- the tick of a phase, from what was read of it
+tick-read : (c : Circuit) (p : ℕ) {closing cycle : ℕ} → cycle ≡ c .cycle → closing ≡ c .closing p → cond (eqb closing cycle) 0 closing ≡ tick c p
+unfolding tick
+tick-read c p n e = rw (n, e)
+
 abbrev Inv-loop : tie.InvT-loop
-Inv-loop bytes image closing₀ active₀ layout p₀ closing active p =
-    (p ≤ image .phases) × Filled PHASES (circuitOf bytes .closing) closing p × Filled PHASES (circuitOf bytes .active) active p
+Inv-loop bytes image ticks₀ active₀ layout p₀ ticks active p =
+    (p ≤ image .phases) × Filled PHASES (tick (circuitOf bytes)) ticks p × Filled PHASES (circuitOf bytes .active) active p
 
 abbrev μ-loop : tie.MeasureT-loop
-μ-loop bytes image closing₀ active₀ layout p₀ closing active p = image .phases - p
+μ-loop bytes image ticks₀ active₀ layout p₀ ticks active p = image .phases - p
 
 -- the phases fit the tables
 few : (c : tie.Then1 Inv-loop μ-loop) → c .before .before .before .before .before .args .image .phases ≤ PHASES
@@ -31,11 +39,13 @@ loop-less c = omega arith
 
 loop-again : tie.Need-loop-again Inv-loop μ-loop
 loop-again c =
-    let l = c .before .before .before .loop in
-    let h = of-phase _ _ (c .before .before .before .before .before .before .pre .1 .0) (c .read .ensures) in (
+    let read = c .before in
+    let l = read .before .before .before .loop in
+    let image = read .before .before .before .before .before .before .pre .1 .0 in
+    let h = of-phase _ _ image (read .read .ensures) in (
       omega arith,
-      filled-more (l .inv .1) (omega (arith, few (c .before))) (h .closing),
-      filled-more (l .inv .2) (omega (arith, few (c .before))) (h .active),
+      filled-more (l .inv .1) (omega (arith, few (read .before))) (c .tick .ensures ∙ tick-read _ _ (counts _ _ image .cycle) (h .closing)),
+      filled-more (l .inv .2) (omega (arith, few (read .before))) (h .active),
     )
 
 returns : tie.Need-returns Inv-loop μ-loop
@@ -47,6 +57,6 @@ returns c =
 
 pub load-phases-spec : {M : Type 1} → statement M
 load-phases-spec = tie.close (tie.spec
-    Inv-loop μ-loop loop-holds (λ c κs. search needs) (λ c. omega (arith, few (c .before))) (λ c. omega (arith, few (c .before)))
-    (λ c. omega (arith, few (c .before))) (λ c. omega (arith, few (c .before))) (λ c. omega (arith, few (c .before)))
-    (λ c. omega (arith, few (c .before))) loop-less loop-again returns)
+    Inv-loop μ-loop loop-holds (λ c κs. search needs) (λ c. omega (arith, few (c .before))) (λ c κs. tt)
+    (λ c. omega (arith, few (c .before .before))) (λ c. omega (arith, few (c .before .before))) (λ c. omega (arith, few (c .before .before)))
+    (λ c. omega (arith, few (c .before .before))) (λ c. omega (arith, few (c .before .before))) loop-less loop-again returns)
