@@ -1,4 +1,4 @@
-# The library for C, on x86-64: `make` proves the crate `interface` and builds the archive and the shared object, `make install` puts them with
+# The library for C, on x86-64: `make` proves the crate `interface_c` and builds the archive and the shared object, `make install` puts them with
 # the header below PREFIX, `make test` runs the link tests. On another processor a cross compiler links.
 PREFIX ?= /usr/local
 VERSION := 1
@@ -9,10 +9,10 @@ LIB := $(DESTDIR)$(PREFIX)/lib
 
 all: build/libneelukudam.so.$(VERSION)
 
-build/libneelukudam.a: crates.txt $(shell find crates -name '*.rt' -o -name '*.antt')
-	rt staticlib interface
+build/libneelukudam.a: crates.txt $(shell find crates -name out -prune -o \( -name '*.rt' -o -name '*.antt' \) -print)
+	cd crates/interface_c && rt lib
 	@mkdir -p build
-	cp target/staticlib/libinterface.a $@
+	cp crates/interface_c/out/libinterface_c.a $@
 
 # only the five calls are seen from outside
 build/libneelukudam.so.$(VERSION): build/libneelukudam.a

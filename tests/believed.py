@@ -1,7 +1,7 @@
 #!/usr/bin/env python3
 """What a reader must believe leans on nothing else.
 
-`python3 tests/believed.py` ends with status 1 where a file of crates/*/specs names a module of specs/inside or of proofs/, or where the
+`python3 tests/believed.py` ends with status 1 where a file of crates/*/specs names a module of specs/Inside or of proofs/, or where the
 table "What to read, in order" of docs/ARCHITECTURE.md lists other files than there are. Otherwise it prints how many there are.
 """
 import re
@@ -16,7 +16,7 @@ SHOWN = {"circuit/Changes"} | {"known/" + name for name in ("Answers", "Circuits
 def files():
     """The specs by crate and name, without the lists of modules."""
     for path in sorted(ROOT.glob("crates/*/specs/*.antt")):
-        if path.stem not in ("Lib", "inside"):
+        if path.stem not in ("Lib", "Inside"):
             yield path.parts[-3] + "/" + path.stem, path
 
 
@@ -35,7 +35,7 @@ def main():
     faults = []
     for name, path in files():
         for line in path.read_text().splitlines():
-            if re.match(r"(pub )?use Rattle·\w+(·specs\.specs|\.specs)\.inside\b|(pub )?use Rattle·\w+(·proofs)?\.proofs\b", line):
+            if re.match(r"(pub )?use Rattle\.\w+\.(specs\.Inside|proofs)\b", line):
                 faults.append("%s leans on what is inside: %s" % (path.relative_to(ROOT), line))
     there = {name for name, _ in files()} - SHOWN
     said = list(listed())

@@ -3,48 +3,31 @@
 
 `python3 tests/try_edit.py CRATE` tries all edits of the crate, `python3 tests/try_edit.py CRATE LABEL...` the named ones.
 
-A whole check of a crate for each edit takes minutes. Here the edit is put into a copy below target/try/, and `rt dev` checks there
+A whole check of a crate for each edit takes minutes. Here the edit is put into a copy outside the checkout, and `rt check` checks there
 only what the edit changed. An edit is worth something where a fact no longer holds: read the errors. Where the first one says
-"has no `Need-..` that can be named from here", or is a bound, the edit shows nothing. The exit status is 1 where an edit was not refused.
+that a name cannot be found, or is a bound, the edit shows nothing. The exit status is 1 where an edit was not refused.
 """
 import pathlib
 import shutil
 import subprocess
 import sys
+import tempfile
 import time
 
 ROOT = pathlib.Path(__file__).resolve().parent.parent
-COPY = ROOT / "target" / "try"
+COPY = pathlib.Path(tempfile.mkdtemp(prefix="try-edit-"))
 PARTS = ("src", "specs", "proofs")
 
 
 def lay(crate):
-    """The crate anew in the copy; everything else is a link to what stands here, built crates too."""
-    (COPY / "crates").mkdir(parents=True, exist_ok=True)
-    (COPY / "target").mkdir(exist_ok=True)
-    shutil.copy(ROOT / "crates.txt", COPY)
-    for built in ("rlib", "stamp", "log"):
-        (ROOT / "target" / built).mkdir(exist_ok=True)
-        link(COPY / "target" / built, ROOT / "target" / built)
-    for other in (ROOT / "crates").iterdir():
-        place = COPY / "crates" / other.name
-        if other.name != crate:
-            link(place, other)
-            continue
-        if place.is_symlink():
-            place.unlink()
-        for part in PARTS:
-            shutil.rmtree(place / part, ignore_errors=True)
-            if (other / part).is_dir():
-                shutil.copytree(other / part, place / part)
-
-
-def link(place, to):
-    if place.is_symlink():
-        place.unlink()
-    elif place.exists():
-        shutil.rmtree(place)
-    place.symlink_to(to)
+    """The repository in the copy at first, and the crate anew each time. What is built there stays."""
+    if not (COPY / "crates").is_dir():
+        shutil.copytree(ROOT / "crates", COPY / "crates")
+        shutil.copy(ROOT / "crates.txt", COPY)
+    for part in PARTS:
+        shutil.rmtree(COPY / "crates" / crate / part, ignore_errors=True)
+        if (ROOT / "crates" / crate / part).is_dir():
+            shutil.copytree(ROOT / "crates" / crate / part, COPY / "crates" / crate / part)
 
 
 def apply(crate, edit):
@@ -64,8 +47,8 @@ def apply(crate, edit):
 
 def check(crate):
     """Whether the crate is proved, and what was printed."""
-    ran = subprocess.run(["rt", "dev", crate], cwd=COPY, capture_output=True, text=True)
-    return ran.returncode == 0, (ran.stdout + ran.stderr).replace(str(COPY) + "/", "")
+    ran = subprocess.run(["rt", "check"], cwd=COPY / "crates" / crate, capture_output=True, text=True)
+    return ran.returncode == 0, ran.stdout + ran.stderr
 
 
 def main():
@@ -86,7 +69,7 @@ def main():
         lay(crate)
         survived += proved
         print("%s: %s (%.0f s)" % (label, "NOT REFUSED" if proved else "refused", time.time() - since))
-        errors = [line for line in said.splitlines() if ": error" in line or line.startswith("note: crates")]
+        errors = [line for line in said.splitlines() if ": error" in line or line.startswith("note: proofs")]
         for line in errors[:3]:
             print("    " + line[:400])
         sys.stdout.flush()
@@ -94,4 +77,7 @@ def main():
 
 
 if __name__ == "__main__":
-    main()
+    try:
+        main()
+    finally:
+        shutil.rmtree(COPY, ignore_errors=True)

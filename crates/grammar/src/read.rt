@@ -1,14 +1,14 @@
 // What a reader read, and the place behind it. A place that no text has says that nothing was read.
 use image::{Arc, Phase, Synchronizer};
 
-#[derive(Drop)]
+#[derive(Clone, Copy)]
 pub struct Number {
     pub value: u32,
     pub next: usize,
 }
 
 // A window.
-#[derive(Drop)]
+#[derive(Clone, Copy)]
 pub struct Span {
     pub low: u32,
     pub high: u32,
@@ -16,7 +16,7 @@ pub struct Span {
 }
 
 // What a line says: the cycle, or a record.
-#[derive(Drop)]
+#[derive(Clone, Copy)]
 pub enum Line {
     Cycle(u32),
     Phase(Phase),
@@ -24,7 +24,7 @@ pub enum Line {
     Arc(Arc),
 }
 
-#[derive(Drop)]
+#[derive(Clone, Copy)]
 pub struct Read {
     pub line: Line,
     pub next: usize,

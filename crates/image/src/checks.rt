@@ -9,7 +9,7 @@ use crate::rules::{
 
 // A good image, with what it says of itself; or the number of the rule that refuses it (docs/RULES.md), with the lowest record
 // at fault, which is 0 for rules 1 to 5.
-#[derive(Drop)]
+#[derive(Clone, Copy)]
 pub enum Checked {
     Good(Image),
     Refused(u32, u32),

@@ -5,7 +5,7 @@ ghost use Rattle.image.specs.Header.{header_of, image_of, offset_of};
 use crate::bytes::word;
 
 // The eight words at the start of an image.
-#[derive(Drop)]
+#[derive(Clone, Copy)]
 pub struct Header {
     pub version: u32,
     pub cycle: u32,
@@ -19,7 +19,7 @@ pub struct Header {
 
 // Where the records lie: the byte at which each table starts, and the bytes of a synchronizer's record. Whoever reads
 // a record is handed this and computes no offset.
-#[derive(Drop)]
+#[derive(Clone, Copy)]
 pub struct Layout {
     pub phases: u32,
     pub synchronizers: u32,
@@ -28,7 +28,7 @@ pub struct Layout {
 }
 
 // What an image says of itself: the cycle, how many records each table has, and where they lie.
-#[derive(Drop)]
+#[derive(Clone, Copy)]
 pub struct Image {
     pub cycle: u32,
     pub phases: u32,
@@ -38,7 +38,7 @@ pub struct Image {
 }
 
 // The parts of an image after its header, in their order, and the end.
-#[derive(Drop)]
+#[derive(Clone, Copy)]
 pub enum Part {
     Phases,
     Synchronizers,

@@ -1,6 +1,8 @@
 // Reading: from the bytes of a circuit image to its records, or to the rule by which the image is refused.
 // The format, the limits and the nine rules are in docs/RULES.md; specs/ holds them as definitions.
 // From below to above: bytes, header, records, reader, numbered, rules, checks. None uses a module above it.
+#![tactic(auto)]
+
 mod bytes;
 mod checks;
 mod header;

@@ -8,14 +8,14 @@ ghost use Rattle.image.specs.Reader.{onward_of, found_of, reader_at, next_of};
 use crate::bytes::fits;
 use crate::records::{Arc, Phase, Synchronizer};
 
-#[derive(Drop)]
+#[derive(Clone, Copy)]
 pub struct Reader<'a> {
     pub bytes: &'a [u8],
     pub at: usize,
 }
 
 // The tables of an image.
-#[derive(Drop)]
+#[derive(Clone, Copy)]
 pub enum Table {
     Phases,
     Synchronizers,
@@ -23,7 +23,7 @@ pub enum Table {
 }
 
 // What stands at a place: a record of the table that is read, or its end.
-#[derive(Drop)]
+#[derive(Clone, Copy)]
 pub enum Record {
     Phase(Phase),
     Synchronizer(Synchronizer),
@@ -33,7 +33,7 @@ pub enum Record {
 
 // The reader moved on, and what it found. An enum cannot hold a reference, so the answer stands beside the reader's fields;
 // `Reader::new(next.bytes, next.at)` reads on.
-#[derive(Drop)]
+#[derive(Clone, Copy)]
 pub struct Next<'a> {
     pub bytes: &'a [u8],
     pub at: usize,

@@ -8,13 +8,13 @@ use crate::bytes::{fits, whole, word};
 use crate::header::Image;
 
 // When a phase closes, and how long it is active before that.
-#[derive(Drop)]
+#[derive(Clone, Copy)]
 pub struct Phase {
     pub closing: u32,
     pub active: u32,
 }
 
-#[derive(Drop)]
+#[derive(Clone, Copy)]
 pub struct Synchronizer {
     pub phase: u32,
     pub kind: u32,
@@ -24,7 +24,7 @@ pub struct Synchronizer {
     pub greatest: u32,
 }
 
-#[derive(Drop)]
+#[derive(Clone, Copy)]
 pub struct Arc {
     pub from: u32,
     pub to: u32,

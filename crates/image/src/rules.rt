@@ -10,7 +10,7 @@ use crate::header::{Header, Image, Part};
 use crate::records::{Arc, Phase, Synchronizer};
 
 // The rules that ask something of every record of a table.
-#[derive(Drop)]
+#[derive(Clone, Copy)]
 pub enum Rule {
     Phases,
     Synchronizers,

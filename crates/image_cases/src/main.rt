@@ -5,6 +5,8 @@
 // and then the bytes of the name and of the image. For each frame one line is printed: the name, then `good`, or
 // `refused` with the number of the rule and the record. Where a frame is longer than the buffers, or the input
 // ends inside it, a line says so and the run ends.
+#![tactic(auto)]
+
 ghost use Rattle.std.specs.Prelude.{◌≤◌};
 
 use libc::{STDIN_FILENO, STDOUT_FILENO};

@@ -1,27 +1,24 @@
-// The functions that C calls. A slice is a pointer and a length to C.
+// The calls that C is offered, as functions of a library; the crate interface_c exports them.
 ghost use Rattle.interface.specs.Promise.{CheckForC, TimingForC, PathForC, ReportForC, TextForC};
 
 use crate::check_answer::{CheckAnswer, check_answer};
 use crate::path_answer::{PathAnswer, path_answer};
 use crate::text_answer::{TextAnswer, text_answer};
 use crate::timing_answer::{TimingAnswer, timing_answer};
-use bytes::copy;
 use image::check;
 use report::{LONGEST, report};
 use text::image_from_text;
 use timing::{path, timing};
 
 // Is the image good, and what does it say of itself?
-#[unsafe(no_mangle)]
-pub extern "C" fn neelukudam_check(bytes: &[u8]) -> CheckAnswer
+pub fn neelukudam_check(bytes: &[u8]) -> CheckAnswer
     ensures { CheckForC bytes.now result }
 {
     check_answer(check(bytes))
 }
 
 // Times the circuit.
-#[unsafe(no_mangle)]
-pub extern "C" fn neelukudam_timing(
+pub fn neelukudam_timing(
     bytes: &[u8],
     results: &mut [i64],
     arcs: &mut [u32],
@@ -32,16 +29,14 @@ pub extern "C" fn neelukudam_timing(
 }
 
 // Which way the late arrival at a synchronizer came.
-#[unsafe(no_mangle)]
-pub extern "C" fn neelukudam_path(bytes: &[u8], synchronizer: u32, arcs: &mut [u32]) -> PathAnswer
+pub fn neelukudam_path(bytes: &[u8], synchronizer: u32, arcs: &mut [u32]) -> PathAnswer
     ensures { PathForC bytes.now synchronizer arcs.old result arcs.new }
 {
     path_answer(path(bytes, synchronizer, arcs))
 }
 
 // The length of the report. It is written if the buffer is long enough for all of it; otherwise the buffer stays as it is.
-#[unsafe(no_mangle)]
-pub extern "C" fn neelukudam_report(bytes: &[u8], text: &mut [u8]) -> usize
+pub fn neelukudam_report(bytes: &[u8], text: &mut [u8]) -> usize
     ensures { ReportForC bytes.now text.old result text.new }
 {
     let mut whole = [0u8; LONGEST];
@@ -50,12 +45,12 @@ pub extern "C" fn neelukudam_report(bytes: &[u8], text: &mut [u8]) -> usize
     if room < size {
         return size;
     }
-    copy(&whole[..size], text)
+    text[..size].copy_from_slice(&whole[..size]);
+    size
 }
 
 // The image of a written circuit.
-#[unsafe(no_mangle)]
-pub extern "C" fn neelukudam_image_from_text(text: &[u8], image: &mut [u8]) -> TextAnswer
+pub fn neelukudam_image_from_text(text: &[u8], image: &mut [u8]) -> TextAnswer
     ensures { TextForC text.now image.old result image.new }
 {
     text_answer(image_from_text(text, image))

@@ -6,7 +6,7 @@ use image::Checked;
 
 // Refusal 0 and the image's numbers; or the number of refusal and the record at fault.
 #[repr(C)]
-#[derive(Drop)]
+#[derive(Clone, Copy)]
 pub struct CheckAnswer {
     pub refusal: u32,
     pub record: u32,

@@ -6,7 +6,7 @@ use timing::Way;
 
 // Refusal 0, where the path starts and how many arcs it has.
 #[repr(C)]
-#[derive(Drop)]
+#[derive(Clone, Copy)]
 pub struct PathAnswer {
     pub refusal: u32,
     pub record: u32,

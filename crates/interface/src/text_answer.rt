@@ -6,7 +6,7 @@ use text::Made;
 
 // Refusal 0 and how many bytes the image has; or the number of refusal and the line or the record at fault.
 #[repr(C)]
-#[derive(Drop)]
+#[derive(Clone, Copy)]
 pub struct TextAnswer {
     pub refusal: u32,
     pub record: u32,

@@ -6,7 +6,7 @@ use timing::Answer;
 
 // Refusal 0 and no arcs of a loop: timed. Refusal 0 and some arcs: a growing loop. The gain stands first, so that no gap lies between fields.
 #[repr(C)]
-#[derive(Drop)]
+#[derive(Clone, Copy)]
 pub struct TimingAnswer {
     pub gain: i64,
     pub refusal: u32,

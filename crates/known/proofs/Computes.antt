@@ -12,7 +12,7 @@ use Rattle.circuit.specs.Circuit.{circuit_of}
 use Rattle.circuit.specs.Clock.{tick, together, shift, is_latch, opening, launch, delay, weight}
 use Rattle.circuit.specs.Exchange.{swapped}
 use Rattle.circuit.specs.Times.{setup_slack, hold_slack, count, six, results}
-use Rattle.report.specs.Decimal.{digits_up_to, digits, signed, result}
+use Rattle.report.specs.Decimal.{digits_up_to, digits, signed, result_text}
 use Rattle.report.specs.Text.{each, text_of}
 use Rattle.known.specs.Circuits.{known, p1, p2, p3, p4, p5, p7, p8, p9, p10, p11, p12, p13, p14, p15}
 
@@ -23,5 +23,5 @@ unfolding known p1 p2 p3 p4 p5 p7 p8 p9 p10 p11 p12 p13 p14 p15
     into arrival next round max_ℤ min_ℤ
     circuit_of tick together shift is_latch opening launch delay weight
     swapped setup_slack hold_slack count six results
-    digits_up_to digits signed result each text_of
+    digits_up_to digits signed result_text each text_of
 computes = tt

@@ -1,4 +1,6 @@
 // The program: reads a circuit image from standard input and prints its report, nothing else. All that it says is worked out by the library.
+#![tactic(auto)]
+
 ghost use Rattle.std.specs.Prelude.{◌≡◌, ◌+◌, ◌≤◌, length};
 ghost use Rattle.image.specs.Header.{most_bytes};
 ghost use Rattle.neelukudam.specs.Promise.{Whole};

@@ -1,5 +1,7 @@
 // The program: reads a text from standard input and writes its image to standard output. A refusal goes to standard error, and then nothing
 // goes to standard output. All that it says is worked out by the library.
+#![tactic(auto)]
+
 ghost use Rattle.std.specs.Prelude.{◌≡◌, ◌+◌, ◌≤◌, length};
 ghost use Rattle.grammar.specs.Text.{longest_text};
 ghost use Rattle.neelukudam_text.specs.Promise.{Whole};

@@ -12,7 +12,7 @@ use Rattle.flow.proofs.Joined.{every_join}
 use Rattle.timing.specs.declared.timing_call.Answer.{Answer}
 use Rattle.timing.specs.declared.timing_call.Answer.TheVariants.{Refused, Growing, Timed}
 use Rattle.report.specs.Ascii.{ascii}
-use Rattle.report.specs.Decimal.{digit, digits, signed, result}
+use Rattle.report.specs.Decimal.{digit, digits, signed, result_text}
 use Rattle.report.specs.Text.{feed, spaced, line, each, arc_line, row, text_of}
 use Rattle.report.proofs.Digits.{size, digits_one, digits_more}
 use Rattle.report.proofs.Determined.{digits_determine, signed_determines, shown, result_determines}
@@ -112,14 +112,14 @@ unfolding signed
 signed_field (pos n) = digits_field n
 signed_field (negsuc n) = (omega arith, digits_field (suc n))
 
-result_field : (z : ℤ) → Field (result z)
+result_field : (z : ℤ) → Field (result_text z)
 result_field z = elim (shown z) [ inl p ↦ rw p.1 (omega arith, tt) | inr p ↦ rw p (signed_field z) ]
 
-results_fields : (xs : List ℤ) → Fields (map result xs)
+results_fields : (xs : List ℤ) → Fields (map result_text xs)
 results_fields [] = tt
 results_fields (x ∷ xs) = (result_field x, results_fields xs)
 
-results_same : (xs ys : List ℤ) → map result xs ≡ map result ys → xs ≡ ys
+results_same : (xs ys : List ℤ) → map result_text xs ≡ map result_text ys → xs ≡ ys
 results_same [] [] e = refl
 results_same [] (y ∷ ys) e = let k : ◌≡◌ {A = ℕ} 0 1 = cc in let z : ⊥ = omega arith in absurd z
 results_same (x ∷ xs) (y ∷ ys) e =
@@ -172,7 +172,7 @@ module _ (l k : ℕ) (R S : List ℤ) (A B : List ℕ) where
       (λ i. digits_field _) (λ i. digits_field _) (λ i. tt) (λ i. tt) (rw (sym e) at h) i b).0
 
   rows_same : l ≡ k → each (row R) l ≡ each (row S) k → (i : ℕ) → i < l → take 6 (drop (6 * i) R) ≡ take 6 (drop (6 * i) S)
-  rows_same e h i b = results_same _ _ (each_lines l digits digits (λ i. map result (take 6 (drop (6 * i) R))) (λ i. map result (take 6 (drop (6 * i) S)))
+  rows_same e h i b = results_same _ _ (each_lines l digits digits (λ i. map result_text (take 6 (drop (6 * i) R))) (λ i. map result_text (take 6 (drop (6 * i) S)))
       digits_field digits_field (λ i. results_fields (take 6 (drop (6 * i) R))) (λ i. results_fields (take 6 (drop (6 * i) S))) (rw (sym e) at h) i b).1
 
   same : (X Y : Answer) → word X ≡ word Y → fields_of l X ≡ fields_of k Y → rest_of l X R A ≡ rest_of k Y S B → (X ≡ Y) × Shared X l k R S A B

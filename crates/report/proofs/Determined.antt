@@ -10,7 +10,7 @@ use lib.IntN.{ℤ, pos, negsuc}
 use lib.ListN.{length, drop, get_or, get_or-append}
 use borrow.Author.Tests.{eqb-true}
 use Rattle.circuit.specs.Times.{mark}
-use Rattle.report.specs.Decimal.{digit, dash, digits, signed, result}
+use Rattle.report.specs.Decimal.{digit, dash, digits, signed, result_text}
 use Rattle.report.proofs.Digits.{size, digits_one, digits_more, digits_some}
 
 -- the number that digits stand for, after those of n
@@ -60,8 +60,8 @@ no_mark (pos n) e = no_dash n [] e
 no_mark (negsuc n) e = omega (arith, digits_some (suc n), ap (λ (l : List ℕ). length (drop 1 l)) e)
 
 -- the mark, or a number
-pub shown : (z : ℤ) → ((z ≡ mark) × (result z ≡ dash ∷ [])) ⊎ (result z ≡ signed z)
-unfolding result
+pub shown : (z : ℤ) → ((z ≡ mark) × (result_text z ≡ dash ∷ [])) ⊎ (result_text z ≡ signed z)
+unfolding result_text
 shown (pos n) = go (eqb n (2 ^ 63 - 1)) refl
   where
     go : (b : Bool) → eqb n (2 ^ 63 - 1) ≡ b →
@@ -70,7 +70,7 @@ shown (pos n) = go (eqb n (2 ^ 63 - 1)) refl
     go false e = inr refl
 shown (negsuc n) = inr refl
 
-pub result_determines : (x y : ℤ) → result x ≡ result y → x ≡ y
+pub result_determines : (x y : ℤ) → result_text x ≡ result_text y → x ≡ y
 result_determines x y e = elim (shown x) [
   | inl p ↦ elim (shown y) [ inl q ↦ p.0 ∙ sym q.0 | inr q ↦ absurd (no_mark y (sym q ∙ sym e ∙ p.1)) ]
   | inr p ↦ elim (shown y) [

@@ -12,7 +12,7 @@ use lib.ListN.{length, take, drop, get_or, replicate, length-append, length-take
 use Rattle.circuit.proofs.Sizes.{Small, AllSmall}
 use Rattle.report.specs.Limits.{FIRST_LINE, ROW}
 use Rattle.report.specs.Ascii.{ascii}
-use Rattle.report.specs.Decimal.{dash, digits, signed, result}
+use Rattle.report.specs.Decimal.{dash, digits, signed, result_text}
 use Rattle.report.specs.Text.{space, feed, spaced, line, each, arc_line, row}
 use Rattle.report.proofs.Digits.{digits_few}
 
@@ -22,8 +22,8 @@ unfolding signed
 signed_few (pos n) h = omega (arith, digits_few 12 n h)
 signed_few (negsuc n) h = omega (arith, digits_few 12 (suc n) h)
 
-result_few : (z : ℤ) → Small z → length (result z) ≤ 14
-unfolding result
+result_few : (z : ℤ) → Small z → length (result_text z) ≤ 14
+unfolding result_text
 result_few z (inl e) = rw e (omega arith)
 result_few (pos n) (inr h) = go (eqb n (2 ^ 63 - 1)) (signed_few (pos n) (omega arith))
   where
@@ -52,9 +52,9 @@ small_zeros zero = tt
 small_zeros (suc n) = (inr (omega arith), small_zeros n)
 
 -- n fields of results, each with its space
-fields_few : (xs : List ℤ) → AllSmall xs → length (spaced (map result xs)) ≤ 15 * length xs
+fields_few : (xs : List ℤ) → AllSmall xs → length (spaced (map result_text xs)) ≤ 15 * length xs
 fields_few [] h = omega arith
-fields_few (x ∷ xs) h = rw (length-append (result x) (spaced (map result xs))) (omega (arith, result_few x h.0, fields_few xs h.1))
+fields_few (x ∷ xs) h = rw (length-append (result_text x) (spaced (map result_text xs))) (omega (arith, result_few x h.0, fields_few xs h.1))
 
 line_long : (first : List ℕ) (fields : List (List ℕ)) → length (line first fields) ≡ length first + length (spaced fields) + 1
 line_long first fields = rw (length-append first (spaced fields ++ (feed ∷ [])), length-append (spaced fields) (feed ∷ [])) (omega arith)
@@ -64,7 +64,7 @@ pub row_few : (numbers : List ℤ) (i : ℕ) → AllSmall numbers → i < 1000 �
 row_few numbers i h l =
     let six = take 6 (drop (6 * i) numbers) in
     let few = fields_few six (small_take 6 (drop (6 * i) numbers) (small_drop (6 * i) numbers h)) in
-    rw (line_long (digits i) (map result six))
+    rw (line_long (digits i) (map result_text six))
     (omega (arith, few, length-take 6 (drop (6 * i) numbers), digits_few 2 i l))
 
 -- the line of an arc

@@ -13,7 +13,7 @@ use Rattle.flow.specs.Walk.{Shown}
 use Rattle.circuit.specs.Circuit.{Circuit}
 use Rattle.circuit.specs.Times.{six, results}
 use Rattle.timing.proofs.SixResults.{length-results}
-use Rattle.report.specs.Decimal.{digits, result}
+use Rattle.report.specs.Decimal.{digits, result_text}
 use Rattle.report.specs.Text.{line, each, arc_line, row}
 
 -- texts that agree one by one
@@ -39,9 +39,9 @@ module _ (c : Circuit) (E D : ℕ → ℤ) where
 
   -- one line for each synchronizer: its number and its six numbers
   pub rows_tell : (l : ℕ) (rest : List ℤ) →
-      each (row (results c E D l ++ rest)) l ≡ each (λ i. line (digits i) (map result (six c E D i))) l
-  rows_tell l rest = each_same (row (results c E D l ++ rest)) (λ i. line (digits i) (map result (six c E D i))) l
-      (λ i h. ap (λ (xs : List ℤ). line (digits i) (map result xs)) (results_at l i rest h))
+      each (row (results c E D l ++ rest)) l ≡ each (λ i. line (digits i) (map result_text (six c E D i))) l
+  rows_tell l rest = each_same (row (results c E D l ++ rest)) (λ i. line (digits i) (map result_text (six c E D i))) l
+      (λ i h. ap (λ (xs : List ℤ). line (digits i) (map result_text xs)) (results_at l i rest h))
 
 -- one line for each arc of the ring, in order of travel
 pub arcs_tell : (f : Flow) {count : ℕ} {total : ℤ} {before after : List ℕ} (s : Shown f count total before after) →

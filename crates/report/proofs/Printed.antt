@@ -7,7 +7,7 @@ use lib.IntN.{pos, negsuc}
 use Rattle.circuit.specs.Times.{mark}
 use Rattle.timing.specs.declared.timing_call.Answer.TheVariants.{Refused, Growing, Timed}
 use Rattle.report.specs.Ascii.{ascii}
-use Rattle.report.specs.Decimal.{digits_up_to, digits, signed, result}
+use Rattle.report.specs.Decimal.{digits_up_to, digits, signed, result_text}
 use Rattle.report.specs.Text.{each, text_of}
 use Rattle.report.proofs.Digits.{digits_within}
 
@@ -23,8 +23,8 @@ below_is : signed (negsuc 9) ≡ ascii "-10"
 unfolding digits digits_up_to signed
 below_is = refl
 
-mark_is : result mark ≡ ascii "-"
-unfolding result
+mark_is : result_text mark ≡ ascii "-"
+unfolding result_text
 mark_is = refl
 
 -- numbers of 64 bits: 20 digits are enough
@@ -36,12 +36,12 @@ unfolding digits_up_to
 greatest_is = long 18446744073709551615 (omega arith)
 
 -- one less than the mark is a number
-next_is : result (pos 9223372036854775806) ≡ ascii "9223372036854775806"
-unfolding digits_up_to signed result
+next_is : result_text (pos 9223372036854775806) ≡ ascii "9223372036854775806"
+unfolding digits_up_to signed result_text
 next_is = long 9223372036854775806 (omega arith)
 
-least_is : result (negsuc 9223372036854775807) ≡ ascii "-9223372036854775808"
-unfolding digits_up_to signed result
+least_is : result_text (negsuc 9223372036854775807) ≡ ascii "-9223372036854775808"
+unfolding digits_up_to signed result_text
 least_is = rw (long 9223372036854775808 (omega arith))
 
 pub refusal : text_of 0 (Refused 7 12) [] [] ≡ ascii "refused 7 12\n"
@@ -52,7 +52,7 @@ refusal = refl
 pub first : text_of 2 (Timed 0 0) (
     pos 60 ∷ pos 60 ∷ pos 25 ∷ pos 60 ∷ pos 20 ∷ pos 30 ∷ pos 60 ∷ pos 80 ∷ pos 35 ∷ pos 80 ∷ pos 30 ∷ pos 10 ∷ []
     ) [] ≡ ascii "timed 2 0 0\n0 60 60 25 60 20 30\n1 60 80 35 80 30 10\n"
-unfolding digits digits_up_to signed result each text_of
+unfolding digits digits_up_to signed result_text each text_of
 first = refl
 
 -- P2: the rest of the arc buffer is not told
@@ -64,7 +64,7 @@ second = refl
 pub eighth : text_of 2 (Timed 0 1) (
     pos 100 ∷ pos 100 ∷ mark ∷ mark ∷ mark ∷ mark ∷ pos 100 ∷ pos 100 ∷ pos 9 ∷ pos 88 ∷ negsuc 0 ∷ pos 2 ∷ pos 0 ∷ []
     ) [] ≡ ascii "timed 2 0 1\n0 100 100 - - - -\n1 100 100 9 88 -1 2\n"
-unfolding digits digits_up_to signed result each text_of
+unfolding digits digits_up_to signed result_text each text_of
 eighth = refl
 
 -- P10

@@ -6,10 +6,10 @@ use native.Mathlib.Omega.{arith}
 use lib.IntN.{ℤ, pos}
 use lib.ListN.{length, take, drop, get_or, length-drop}
 use lib.Seq.{take-suc, get_or-drop}
-use Rattle.report.specs.Decimal.{result}
+use Rattle.report.specs.Decimal.{result_text}
 use Rattle.report.specs.Text.{space, spaced, each}
 
-map_append : (xs ys : List ℤ) → map result (xs ++ ys) ≡ map result xs ++ map result ys
+map_append : (xs ys : List ℤ) → map result_text (xs ++ ys) ≡ map result_text xs ++ map result_text ys
 map_append [] ys = refl
 map_append (x ∷ xs) ys = rw (map_append xs ys)
 
@@ -19,10 +19,10 @@ spaced_append (x ∷ xs) ys = rw (spaced_append xs ys, append_assoc)
 
 -- a space and the result at place k + j
 abbrev pub field : List ℤ → ℕ → ℕ → List ℕ
-field numbers k j = space ∷ result (get_or numbers (k + j) (pos 0))
+field numbers k j = space ∷ result_text (get_or numbers (k + j) (pos 0))
 
 pub fields_are : (numbers : List ℤ) (k n : ℕ) → k + n ≤ length numbers →
-    each (field numbers k) n ≡ spaced (map result (take n (drop k numbers)))
+    each (field numbers k) n ≡ spaced (map result_text (take n (drop k numbers)))
 unfolding each
 fields_are numbers k zero h = refl
 fields_are numbers k (suc n) h =
@@ -32,7 +32,7 @@ fields_are numbers k (suc n) h =
       fields_are numbers k n (omega arith),
       take-suc rest n (pos 0) (omega arith),
       map_append (take n rest) (get_or rest n (pos 0) ∷ []),
-      spaced_append (map result (take n rest)) (result (get_or rest n (pos 0)) ∷ []),
+      spaced_append (map result_text (take n rest)) (result_text (get_or rest n (pos 0)) ∷ []),
       append-nil,
       get_or-drop k numbers n (pos 0),
     )

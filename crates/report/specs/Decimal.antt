@@ -24,6 +24,6 @@ signed (pos n) = digits n
 signed (negsuc n) = dash ∷ digits (suc n)
 
 -- a result: a dash for the mark, 2^63 - 1
-unfoldable pub result : ℤ → List ℕ
-result (pos n) = cond (eqb n (2 ^ 63 - 1)) (dash ∷ []) (signed (pos n))
-result (negsuc n) = signed (negsuc n)
+unfoldable pub result_text : ℤ → List ℕ
+result_text (pos n) = cond (eqb n (2 ^ 63 - 1)) (dash ∷ []) (signed (pos n))
+result_text (negsuc n) = signed (negsuc n)

@@ -2,7 +2,7 @@
 use Rattle.std.specs.Prelude.{List, [], ◌∷◌, ◌++◌, map, ℕ, zero, suc, ◌*◌, ℤ, take, drop, get_or}
 use Prim.Native.Char.{code}
 use Rattle.report.specs.Ascii.{ascii}
-use Rattle.report.specs.Decimal.{digits, signed, result}
+use Rattle.report.specs.Decimal.{digits, signed, result_text}
 use Rattle.timing.specs.declared.timing_call.Answer.{Answer}
 use Rattle.timing.specs.declared.timing_call.Answer.TheVariants.{Refused, Growing, Timed}
 
@@ -32,7 +32,7 @@ arc_line arcs i = line (digits (get_or arcs i 0)) []
 
 -- the six results from a place on, each a field
 abbrev pub six : List ℤ → ℕ → List (List ℕ)
-six numbers first = map result (take 6 (drop first numbers))
+six numbers first = map result_text (take 6 (drop first numbers))
 
 -- the line of a synchronizer: its number and its six results
 abbrev pub row : List ℤ → ℕ → List ℕ

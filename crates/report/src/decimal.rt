@@ -1,6 +1,6 @@
 // Numbers as text. Each function writes from `at` on and returns the place after what it wrote.
 ghost use Rattle.std.specs.Prelude.{◌≡◌, [], ◌∷◌, ◌<◌, pos, nat_abs, ◌<ℤ◌};
-ghost use Rattle.report.specs.Decimal.{digit, digits, signed, result};
+ghost use Rattle.report.specs.Decimal.{digit, digits, signed, result_text};
 ghost use Rattle.report.specs.Inside.Written.{RoomFor, Wrote};
 
 // What stands where no arc leads in.
@@ -9,7 +9,7 @@ const MARK: i64 = 9_223_372_036_854_775_807;
 // One character.
 pub(crate) fn write_byte(byte: u8, at: usize, text: &mut [u8]) -> usize
     requires { RoomFor (byte ∷ []) at text.old }
-    ensures* { λ r. ⌜ Wrote (byte ∷ []) text.old at text.new r ⌝ }
+    ensures { Wrote (byte ∷ []) text.old at text.new result }
 {
     text[at] = byte;
     at + 1
@@ -18,7 +18,7 @@ pub(crate) fn write_byte(byte: u8, at: usize, text: &mut [u8]) -> usize
 // The character of a digit.
 fn digit_of(d: u64) -> u8
     requires { d < 10 }
-    ensures* { λ r. ⌜ r ≡ digit d ⌝ }
+    ensures { result ≡ digit d }
 {
     48 + (d as u8)
 }
@@ -26,7 +26,7 @@ fn digit_of(d: u64) -> u8
 // A number in decimal: its tens first, if it has any, then its ones.
 pub(crate) fn write_digits(n: u64, at: usize, text: &mut [u8]) -> usize
     requires { RoomFor (digits n) at text.old }
-    ensures* { λ r. ⌜ Wrote (digits n) text.old at text.new r ⌝ }
+    ensures { Wrote (digits n) text.old at text.new result }
 {
     if n < 10 {
         return write_byte(digit_of(n), at, text);
@@ -38,7 +38,7 @@ pub(crate) fn write_digits(n: u64, at: usize, text: &mut [u8]) -> usize
 // How far a number below zero lies from it. One is added first, so that the least number of its type is no exception.
 fn size(z: i64) -> u64
     requires { z <ℤ pos 0 }
-    ensures* { λ r. ⌜ r ≡ nat_abs z ⌝ }
+    ensures { result ≡ nat_abs z }
 {
     ((0 - (z + 1)) as u64) + 1
 }
@@ -46,7 +46,7 @@ fn size(z: i64) -> u64
 // A signed number.
 pub(crate) fn write_signed(z: i64, at: usize, text: &mut [u8]) -> usize
     requires { RoomFor (signed z) at text.old }
-    ensures* { λ r. ⌜ Wrote (signed z) text.old at text.new r ⌝ }
+    ensures { Wrote (signed z) text.old at text.new result }
 {
     if z < 0 {
         let next = write_byte(b'-', at, text);
@@ -57,8 +57,8 @@ pub(crate) fn write_signed(z: i64, at: usize, text: &mut [u8]) -> usize
 
 // A result: a number, or a dash for the mark.
 pub(crate) fn write_result(z: i64, at: usize, text: &mut [u8]) -> usize
-    requires { RoomFor (result z) at text.old }
-    ensures* { λ r. ⌜ Wrote (result z) text.old at text.new r ⌝ }
+    requires { RoomFor (result_text z) at text.old }
+    ensures { Wrote (result_text z) text.old at text.new result }
 {
     if z == MARK {
         return write_byte(b'-', at, text);

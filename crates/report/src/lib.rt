@@ -1,4 +1,6 @@
 // Report: timing's answer as text. One call times an image and writes its report (docs/RULES.md) into a buffer that is lent.
+#![tactic(auto)]
+
 mod decimal;
 mod lines;
 mod report_call;

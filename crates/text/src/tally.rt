@@ -1,6 +1,6 @@
 // What is kept while the lines of a text are read.
 
-#[derive(Drop)]
+#[derive(Clone, Copy)]
 pub struct Tally {
     // Where the next line starts; past every text where a line was at fault.
     pub at: usize,

@@ -16,7 +16,7 @@ use grammar::Line;
 use image::{Checked, Header, Image, Part, bad_counts, bad_cycle, check};
 
 // An image of so many bytes; or the number of refusal (docs/RULES.md), with the line or the record at fault.
-#[derive(Drop)]
+#[derive(Clone, Copy)]
 pub enum Made {
     Image(u32),
     Refused(u32, u32),

@@ -54,10 +54,8 @@ pub(crate) fn bring(
     departs: &[u64; NODES],
     a: usize,
 ) -> u64
-    ghost g: { Arcs }
-    requires cycle_value { arcs_of source.now lead.now cycle ≡ g }
-    requires reachable_at { ReachableAt source.now departs.now a }
-    ensures { result ≡ brought g (times_of departs.now) a }
+    requires { ReachableAt source.now departs.now a }
+    ensures { let g : Arcs = arcs_of source.now lead.now cycle in result ≡ brought g (times_of departs.now) a }
 {
     laden(source, lead, departs, a) - wide(cycle)
 }
@@ -96,11 +94,9 @@ pub(crate) fn arrival(
     from: usize,
     to: usize,
 ) -> u64
-    ghost g: { Arcs }
-    requires cycle_value { arcs_of source.now lead.now cycle ≡ g }
     requires from_le_to { from ≤ to }
     requires reachable { Reachable source.now departs.now to }
-    ensures { result ≡ best (side_of late) g (times_of departs.now) from (to - from) }
+    ensures { let g : Arcs = arcs_of source.now lead.now cycle in result ≡ best (side_of late) g (times_of departs.now) from (to - from) }
 {
     if to <= from {
         return none_yet(late);

@@ -1,5 +1,7 @@
 // Timing: from an image to early and late times, slacks and missed counts, or to a growing loop; and the path over which a late
 // arrival came.
+#![tactic(auto)]
+
 mod arrive;
 mod load;
 mod order;

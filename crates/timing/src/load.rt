@@ -13,7 +13,7 @@ use crate::sizes::{ARCS, FIRSTS, NODES, PHASES};
 use image::{Arc, Image, Phase, Synchronizer};
 
 // A synchronizer: its launch, raised, and 1 for a latch; and what its arcs need, its phase and its delays.
-#[derive(Drop)]
+#[derive(Clone, Copy)]
 struct Node {
     launch: u64,
     latch: u8,
@@ -23,7 +23,7 @@ struct Node {
 }
 
 // An arc: the synchronizers that it leaves and enters, and its late and early weights with a cycle added.
-#[derive(Drop)]
+#[derive(Clone, Copy)]
 struct Lead {
     source: u16,
     target: usize,
@@ -40,13 +40,11 @@ fn tick(cycle: u32, closing: u32) -> u32
 
 // When each phase closes, as a tick of the cycle, and how long it is active before that.
 fn load_phases(bytes: &[u8], image: Image, ticks: &mut [u32; PHASES], active: &mut [u32; PHASES])
-    ghost c: { Circuit }
-    requires bytes_value { circuit_of bytes.now ≡ c }
     requires valid { Valid bytes.now }
     requires image_value { image ≡ image_in bytes.now }
     requires ticks_len { (length ticks.old ≡ PHASES) × (length active.old ≡ PHASES) }
-    ensures filled { Filled PHASES (tick c) ticks.new c.phases }
-    ensures filled_2 { Filled PHASES c.active active.new c.phases }
+    ensures filled { let c : Circuit = circuit_of bytes.now in Filled PHASES (tick c) ticks.new c.phases }
+    ensures filled_2 { let c : Circuit = circuit_of bytes.now in Filled PHASES c.active active.new c.phases }
 {
     let layout = image.layout;
     let mut p: u32 = 0;
@@ -61,14 +59,12 @@ fn load_phases(bytes: &[u8], image: Image, ticks: &mut [u32; PHASES], active: &m
 
 // A synchronizer's launch: the opening of a latch, the cycle for a flip-flop.
 fn launched(bytes: &[u8], image: Image, active: &[u32; PHASES], i: u32) -> Node
-    ghost c: { Circuit }
-    requires bytes_value { circuit_of bytes.now ≡ c }
     requires valid { Valid bytes.now }
     requires image_value { image ≡ image_in bytes.now }
     requires i_lt_synchronizers { i < image.synchronizers }
-    requires filled { Filled PHASES c.active active.now c.phases }
-    ensures launched { Launched c i result.launch result.latch }
-    ensures phase_value { (result.phase ≡ c.phase i) × (result.least ≡ c.least i) × (result.greatest ≡ c.greatest i) }
+    requires filled { let c : Circuit = circuit_of bytes.now in Filled PHASES c.active active.now c.phases }
+    ensures launched { let c : Circuit = circuit_of bytes.now in Launched c i result.launch result.latch }
+    ensures phase_value { let c : Circuit = circuit_of bytes.now in (result.phase ≡ c.phase i) × (result.least ≡ c.least i) × (result.greatest ≡ c.greatest i) }
 {
     let s = Synchronizer::of(bytes, image, i);
     let raised = RAISE + (image.cycle as u64);
@@ -101,17 +97,15 @@ fn load_nodes(
     least: &mut [u32; NODES],
     greatest: &mut [u32; NODES],
 )
-    ghost c: { Circuit }
-    requires bytes_value { circuit_of bytes.now ≡ c }
     requires valid { Valid bytes.now }
     requires image_value { image ≡ image_in bytes.now }
-    requires filled { Filled PHASES c.active active.now c.phases }
+    requires filled { let c : Circuit = circuit_of bytes.now in Filled PHASES c.active active.now c.phases }
     requires launch_len { (length launch.old ≡ NODES) × (length latch.old ≡ NODES) }
     requires phase_len { (length phase.old ≡ NODES) × (length least.old ≡ NODES) × (length greatest.old ≡ NODES) }
-    ensures loaded_nodes { LoadedNodes c launch.new latch.new }
-    ensures filled_2 { Filled NODES c.phase phase.new c.synchronizers }
-    ensures filled_3 { Filled NODES c.least least.new c.synchronizers }
-    ensures filled_4 { Filled NODES c.greatest greatest.new c.synchronizers }
+    ensures loaded_nodes { let c : Circuit = circuit_of bytes.now in LoadedNodes c launch.new latch.new }
+    ensures filled_2 { let c : Circuit = circuit_of bytes.now in Filled NODES c.phase phase.new c.synchronizers }
+    ensures filled_3 { let c : Circuit = circuit_of bytes.now in Filled NODES c.least least.new c.synchronizers }
+    ensures filled_4 { let c : Circuit = circuit_of bytes.now in Filled NODES c.greatest greatest.new c.synchronizers }
 {
     let mut i: u32 = 0;
     while i < image.synchronizers {
@@ -145,14 +139,12 @@ fn led(
     greatest: &[u32; NODES],
     a: u32,
 ) -> Lead
-    ghost c: { Circuit }
-    requires bytes_value { circuit_of bytes.now ≡ c }
     requires valid { Valid bytes.now }
     requires image_value { image ≡ image_in bytes.now }
     requires a_lt_arcs { a < image.arcs }
-    requires noted { Noted c ticks.now phase.now least.now greatest.now }
-    ensures loaded_arc { LoadedArc c a result.source result.late result.early }
-    ensures target_value { result.target ≡ c.to a }
+    requires noted { let c : Circuit = circuit_of bytes.now in Noted c ticks.now phase.now least.now greatest.now }
+    ensures loaded_arc { let c : Circuit = circuit_of bytes.now in LoadedArc c a result.source result.late result.early }
+    ensures target_value { let c : Circuit = circuit_of bytes.now in result.target ≡ c.to a }
 {
     let arc = Arc::of(bytes, image, a);
     let from = arc.from as usize;
@@ -194,13 +186,11 @@ fn load_arcs(
     early: &mut [u32; ARCS],
     first: &mut [u16; FIRSTS],
 )
-    ghost c: { Circuit }
-    requires bytes_value { circuit_of bytes.now ≡ c }
     requires valid { Valid bytes.now × (image ≡ image_in bytes.now) }
-    requires noted { Noted c ticks.now phase.now least.now greatest.now }
+    requires noted { let c : Circuit = circuit_of bytes.now in Noted c ticks.now phase.now least.now greatest.now }
     requires source_len { (length source.old ≡ ARCS) × (length late.old ≡ ARCS) × (length early.old ≡ ARCS) × (length first.old ≡ FIRSTS) }
-    ensures loaded_arcs { LoadedArcs c source.new late.new early.new }
-    ensures loaded_first { LoadedFirst c first.new }
+    ensures loaded_arcs { let c : Circuit = circuit_of bytes.now in LoadedArcs c source.new late.new early.new }
+    ensures loaded_first { let c : Circuit = circuit_of bytes.now in LoadedFirst c first.new }
 {
     first[0] = 0;
     let mut entered: usize = 0;
@@ -235,11 +225,9 @@ pub(crate) fn load(
     launch: &mut [u64; NODES],
     latch: &mut [u8; NODES],
 )
-    ghost c: { Circuit }
-    requires bytes_value { circuit_of bytes.now ≡ c }
     requires valid { Valid bytes.now × (image ≡ image_in bytes.now) }
     requires sized { Sized source.old late.old early.old first.old launch.old latch.old }
-    ensures { Loaded c source.new late.new early.new first.new launch.new latch.new }
+    ensures { let c : Circuit = circuit_of bytes.now in Loaded c source.new late.new early.new first.new launch.new latch.new }
 {
     let mut ticks = [0u32; PHASES];
     let mut active = [0u32; PHASES];

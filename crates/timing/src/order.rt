@@ -63,7 +63,7 @@ fn end(first: &[u16; FIRSTS], latch: &[u8; NODES], i: usize) -> u16
     if latch[i] == 1 { first[i + 1] } else { 0 }
 }
 
-#[derive(Drop)]
+#[derive(Clone, Copy)]
 struct Spot {
     depth: usize,
     count: usize,

@@ -24,11 +24,9 @@ fn bringer(
     to: usize,
     time: u64,
 ) -> usize
-    ghost g: { Arcs }
-    requires cycle_value { arcs_of source.now lead.now cycle ≡ g }
     requires reachable { Reachable source.now departs.now to }
-    requires given { Given g (times_of departs.now) from to time }
-    ensures { Brings g (times_of departs.now) from to time result }
+    requires given { let g : Arcs = arcs_of source.now lead.now cycle in Given g (times_of departs.now) from to time }
+    ensures { let g : Arcs = arcs_of source.now lead.now cycle in Brings g (times_of departs.now) from to time result }
 {
     let mut a = from;
     while a < to {
@@ -52,10 +50,8 @@ fn lift(
     departs: &mut [u64; NODES],
     parents: &mut [u16; NODES],
 ) -> bool
-    ghost w: { Net }
-    requires latch_value { web_of (arcs_of source.now lead.now cycle) first.now latch.now ≡ w }
-    requires sweeps_at { SweepsAt w (times_of departs.old) i }
-    ensures { Tried (side_of late) w i departs.old parents.old result departs.new parents.new }
+    requires { let w : Net = web_of (arcs_of source.now lead.now cycle) first.now latch.now in SweepsAt w (times_of departs.old) i }
+    ensures { let w : Net = web_of (arcs_of source.now lead.now cycle) first.now latch.now in Tried (side_of late) w i departs.old parents.old result departs.new parents.new }
 {
     let time = rises_to(late, source, lead, cycle, first, latch, i, departs);
     if time <= departs[i] {
@@ -83,11 +79,9 @@ fn pass(
     departs: &mut [u64; NODES],
     parents: &mut [u16; NODES],
 ) -> usize
-    ghost w: { Net }
-    requires latch_value { web_of (arcs_of source.now lead.now cycle) first.now latch.now ≡ w }
-    requires sweepable { Sweepable w l × Order l (times_of order.now) }
+    requires sweepable { let w : Net = web_of (arcs_of source.now lead.now cycle) first.now latch.now in Sweepable w l × Order l (times_of order.now) }
     requires room { Room l l (times_of departs.old) × (length departs.old ≡ NODES) × (length parents.old ≡ NODES) }
-    ensures { Passing (side_of late) w l (times_of departs.old) (times_of parents.old) (along order.now forth l) l departs.new parents.new result }
+    ensures { let w : Net = web_of (arcs_of source.now lead.now cycle) first.now latch.now in Passing (side_of late) w l (times_of departs.old) (times_of parents.old) (along order.now forth l) l departs.new parents.new result }
 {
     let mut last = l;
     let mut x: usize = 0;
@@ -114,11 +108,9 @@ fn grow(
     departs: &mut [u64; NODES],
     arcs: &mut [u32],
 ) -> Ring
-    ghost w: { Net }
-    requires latch_value { web_of (arcs_of source.now lead.now cycle) first.now latch.now ≡ w }
-    requires sweepable { Sweepable w l × (l ≤ length arcs.old) }
+    requires sweepable { let w : Net = web_of (arcs_of source.now lead.now cycle) first.now latch.now in Sweepable w l × (l ≤ length arcs.old) }
     requires room { Room l GROWS (times_of departs.old) × (length departs.old ≡ NODES) }
-    ensures { Ended (side_of late) w l (times_of departs.old) departs.new result.count result.gain arcs.old arcs.new }
+    ensures { let w : Net = web_of (arcs_of source.now lead.now cycle) first.now latch.now in Ended (side_of late) w l (times_of departs.old) departs.new result.count result.gain arcs.old arcs.new }
 {
     let base = *departs;
     let mut parents = [0u16; NODES];
@@ -168,11 +160,9 @@ pub(crate) fn rise(
     departs: &mut [u64; NODES],
     arcs: &mut [u32],
 ) -> Ring
-    ghost w: { Net }
-    requires latch_value { web_of (arcs_of source.now lead.now cycle) first.now latch.now ≡ w }
-    requires sweepable { Sweepable w l × (l ≤ length arcs.old) }
+    requires sweepable { let w : Net = web_of (arcs_of source.now lead.now cycle) first.now latch.now in Sweepable w l × (l ≤ length arcs.old) }
     requires room { Room l RAISES (times_of departs.old) × (length departs.old ≡ NODES) }
-    ensures { Ended (side_of late) w l (times_of departs.old) departs.new result.count result.gain arcs.old arcs.new }
+    ensures { let w : Net = web_of (arcs_of source.now lead.now cycle) first.now latch.now in Ended (side_of late) w l (times_of departs.old) departs.new result.count result.gain arcs.old arcs.new }
 {
     if settle(late, source, lead, cycle, first, latch, l, departs) {
         return Ring { count: 0, gain: 0 };

@@ -15,7 +15,7 @@ use crate::trail::trace;
 use image::{Checked, Image};
 
 // Refused, with the number of docs/RULES.md and the record at fault; or found, with the launching synchronizer and the number of arcs.
-#[derive(Drop)]
+#[derive(Clone, Copy)]
 pub enum Way {
     Refused(u32, u32),
     Found(u32, u32),

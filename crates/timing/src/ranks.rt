@@ -25,10 +25,8 @@ fn hits(
     time: u64,
     rank: u16,
 ) -> bool
-    ghost g: { Arcs }
-    requires cycle_value { arcs_of source.now lead.now cycle ≡ g }
-    requires reachable_at { ReachableAt source.now departs.now a }
-    ensures { result ≡ (eqb (brought g (times_of departs.now) a) time && eqb (times_of ranks.now (times_of source.now a)) rank) }
+    requires { ReachableAt source.now departs.now a }
+    ensures { let g : Arcs = arcs_of source.now lead.now cycle in result ≡ (eqb (brought g (times_of departs.now) a) time && eqb (times_of ranks.now (times_of source.now a)) rank) }
 {
     let there = ranks[index(source[a])] == rank;
     (bring(source, lead, cycle, departs, a) == time) & there
@@ -46,11 +44,9 @@ fn gives(
     time: u64,
     rank: u16,
 ) -> bool
-    ghost g: { Arcs }
-    requires cycle_value { arcs_of source.now lead.now cycle ≡ g }
     requires from_le_to { from ≤ to }
     requires reachable { Reachable source.now departs.now to }
-    ensures { Tells (GivenBy g (times_of departs.now) (times_of ranks.now) time rank from to) result }
+    ensures { let g : Arcs = arcs_of source.now lead.now cycle in Tells (GivenBy g (times_of departs.now) (times_of ranks.now) time rank from to) result }
 {
     let mut a = from;
     while a < to {
@@ -75,11 +71,9 @@ fn look(
     rank: u16,
     ranks: &mut [u16; NODES],
 ) -> bool
-    ghost n: { Net }
-    requires latch_value { net_of (arcs_of source.now lead.now cycle) first.now launch.now latch.now ≡ n }
-    requires works_at { WorksAt n (times_of departs.now) i }
+    requires works_at { let n : Net = net_of (arcs_of source.now lead.now cycle) first.now launch.now latch.now in WorksAt n (times_of departs.now) i }
     requires rank_bound { rank < 65534 }
-    ensures { Ranked n (times_of departs.now) i rank ranks.old result ranks.new }
+    ensures { let n : Net = net_of (arcs_of source.now lead.now cycle) first.now launch.now latch.now in Ranked n (times_of departs.now) i rank ranks.old result ranks.new }
 {
     if ranks[i] != NONE {
         return false;
@@ -118,10 +112,8 @@ fn sweep(
     rank: u16,
     ranks: &mut [u16; NODES],
 ) -> bool
-    ghost n: { Net }
-    requires latch_value { net_of (arcs_of source.now lead.now cycle) first.now launch.now latch.now ≡ n }
-    requires sweep_ready { SweepReady n l m (times_of departs.now) rank ranks.old }
-    ensures { Sweeping n (times_of departs.now) rank ranks.old ranks.new l result }
+    requires { let n : Net = net_of (arcs_of source.now lead.now cycle) first.now launch.now latch.now in SweepReady n l m (times_of departs.now) rank ranks.old }
+    ensures { let n : Net = net_of (arcs_of source.now lead.now cycle) first.now launch.now latch.now in Sweeping n (times_of departs.now) rank ranks.old ranks.new l result }
 {
     let mut found = false;
     let mut i: usize = 0;
@@ -167,11 +159,9 @@ pub(crate) fn rank_all(
     l: usize,
     m: usize,
 ) -> [u16; NODES]
-    ghost n: { Net }
-    requires latch_value { net_of (arcs_of source.now lead.now cycle) first.now launch.now latch.now ≡ n }
-    requires shaped { Shaped n l m }
+    requires shaped { let n : Net = net_of (arcs_of source.now lead.now cycle) first.now launch.now latch.now in Shaped n l m }
     requires ranged { Ranged l (times_of departs.now) }
-    ensures { RanksUpTo n l (times_of departs.now) (times_of result) }
+    ensures { let n : Net = net_of (arcs_of source.now lead.now cycle) first.now launch.now latch.now in RanksUpTo n l (times_of departs.now) (times_of result) }
 {
     let mut ranks = [0u16; NODES];
     begin(launch, departs, l, &mut ranks);

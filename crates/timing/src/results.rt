@@ -17,7 +17,7 @@ use image::{Image, Synchronizer};
 const MARK: i64 = 9_223_372_036_854_775_807;
 
 // When the arcs into a synchronizer bring it something: the last time and the first, if any arc leads in.
-#[derive(Drop)]
+#[derive(Clone, Copy)]
 pub(crate) struct Arrivals {
     pub(crate) some: bool,
     pub(crate) late: u64,
@@ -25,7 +25,7 @@ pub(crate) struct Arrivals {
 }
 
 // How many checks are missed.
-#[derive(Drop)]
+#[derive(Clone, Copy)]
 pub(crate) struct Missed {
     pub(crate) setups: u32,
     pub(crate) holds: u32,
@@ -42,10 +42,8 @@ pub(crate) fn arrivals_of(
     sooner: &[u64; NODES],
     i: usize,
 ) -> Arrivals
-    ghost g: { Arcs × Arcs }
-    requires cycle_value { (arcs_of source.now late.now cycle, arcs_of source.now early.now cycle) ≡ g }
-    requires fact { Open source.now first.now later.now sooner.now i }
-    ensures { result ≡ arrivals_of g.0 g.1 (times_of first.now) (times_of later.now) (times_of sooner.now) i }
+    requires { Open source.now first.now later.now sooner.now i }
+    ensures { let g : Arcs × Arcs = (arcs_of source.now late.now cycle, arcs_of source.now early.now cycle) in result ≡ arrivals_of g.0 g.1 (times_of first.now) (times_of later.now) (times_of sooner.now) i }
 {
     let from = first[i] as usize;
     let to = first[i + 1] as usize;
@@ -187,13 +185,11 @@ fn write_one(
     m: Missed,
     results: &mut [i64],
 ) -> Missed
-    ghost c: { Circuit }
-    requires bytes_value { circuit_of bytes.now ≡ c }
     requires writable { Writable bytes.now image source.now late.now early.now first.now later.now sooner.now }
     requires synchronizers_in_bounds { 6 * image.synchronizers ≤ length results.old }
     requires i_lt_synchronizers { i < image.synchronizers }
     requires setups_le_i { (m.setups ≤ i) × (m.holds ≤ i) }
-    ensures { Added c (lowered (times_of later.now)) (lowered (times_of sooner.now)) i results.old results.new m result }
+    ensures { let c : Circuit = circuit_of bytes.now in Added c (lowered (times_of later.now)) (lowered (times_of sooner.now)) i results.old results.new m result }
 {
     let s = Synchronizer::read(bytes, image.layout, i as u32);
     let a = arrivals_of(source, late, early, image.cycle, first, later, sooner, i);
@@ -222,11 +218,9 @@ pub(crate) fn write_results(
     sooner: &[u64; NODES],
     results: &mut [i64],
 ) -> Missed
-    ghost c: { Circuit }
-    requires bytes_value { circuit_of bytes.now ≡ c }
     requires writable { Writable bytes.now image source.now late.now early.now first.now later.now sooner.now }
     requires synchronizers_in_bounds { 6 * image.synchronizers ≤ length results.old }
-    ensures { Written c (lowered (times_of later.now)) (lowered (times_of sooner.now)) results.old results.new result }
+    ensures { let c : Circuit = circuit_of bytes.now in Written c (lowered (times_of later.now)) (lowered (times_of sooner.now)) results.old results.new result }
 {
     let l = image.synchronizers as usize;
     let mut missed = Missed {

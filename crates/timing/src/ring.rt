@@ -12,13 +12,13 @@ use crate::arrive::{counted, index, narrow, wide};
 use crate::signed::minus;
 use crate::sizes::{ARCS, FIRSTS, NODES};
 
-#[derive(Drop)]
+#[derive(Clone, Copy)]
 pub(crate) struct Ring {
     pub(crate) count: u32,
     pub(crate) gain: i64,
 }
 
-#[derive(Drop)]
+#[derive(Clone, Copy)]
 struct Stretch {
     first: usize,
     second: usize,
@@ -172,12 +172,10 @@ fn follow(
     nodes: &mut [u16; FIRSTS],
     trail: &mut [u16; NODES],
 ) -> usize
-    ghost k: { Notes }
-    requires departs_value { notes_of source.now parents.now base.now departs.now ≡ k }
     requires l_bound { (l ≤ NODES) × (u < l) }
     requires nodes_len { (length nodes.old ≡ FIRSTS) × (length trail.old ≡ NODES) }
-    requires parents_in { ParentsIn k l }
-    ensures { WalkedBack k l u result (times_of nodes.new) (times_of trail.new) }
+    requires parents_in { let k : Notes = notes_of source.now parents.now base.now departs.now in ParentsIn k l }
+    ensures { let k : Notes = notes_of source.now parents.now base.now departs.now in WalkedBack k l u result (times_of nodes.new) (times_of trail.new) }
 {
     let mut node = narrow(u);
     let mut d: usize = 0;
@@ -221,11 +219,9 @@ pub(crate) fn close(
     u: usize,
     arcs: &mut [u32],
 ) -> Ring
-    ghost k: { Notes }
-    requires departs_value { notes_of source.now parents.now base.now departs.now ≡ k }
     requires n_nonzero { (0 < n) × (l ≤ NODES) × (u < l) × (l ≤ length arcs.old) }
-    requires parents_in { ParentsIn k l }
-    ensures { Closed k (times_of lead.now) cycle l u n result.count result.gain arcs.old arcs.new }
+    requires parents_in { let k : Notes = notes_of source.now parents.now base.now departs.now in ParentsIn k l }
+    ensures { let k : Notes = notes_of source.now parents.now base.now departs.now in Closed k (times_of lead.now) cycle l u n result.count result.gain arcs.old arcs.new }
 {
     if !due(n, l) {
         return Ring { count: 0, gain: 0 };

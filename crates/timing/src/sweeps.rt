@@ -29,10 +29,8 @@ pub(crate) fn rises_to(
     i: usize,
     departs: &[u64; NODES],
 ) -> u64
-    ghost w: { Net }
-    requires latch_value { web_of (arcs_of source.now lead.now cycle) first.now latch.now ≡ w }
-    requires sweeps_at { SweepsAt w (times_of departs.now) i }
-    ensures { result ≡ raised (side_of late) w (times_of departs.now) i }
+    requires { let w : Net = web_of (arcs_of source.now lead.now cycle) first.now latch.now in SweepsAt w (times_of departs.now) i }
+    ensures { let w : Net = web_of (arcs_of source.now lead.now cycle) first.now latch.now in result ≡ raised (side_of late) w (times_of departs.now) i }
 {
     if latch[i] != 1 {
         return departs[i];
@@ -59,10 +57,8 @@ fn raise(
     i: usize,
     departs: &mut [u64; NODES],
 ) -> bool
-    ghost w: { Net }
-    requires latch_value { web_of (arcs_of source.now lead.now cycle) first.now latch.now ≡ w }
-    requires sweeps_at { SweepsAt w (times_of departs.old) i }
-    ensures { Lifted (side_of late) w i departs.old result departs.new }
+    requires { let w : Net = web_of (arcs_of source.now lead.now cycle) first.now latch.now in SweepsAt w (times_of departs.old) i }
+    ensures { let w : Net = web_of (arcs_of source.now lead.now cycle) first.now latch.now in Lifted (side_of late) w i departs.old result departs.new }
 {
     let time = rises_to(late, source, lead, cycle, first, latch, i, departs);
     let before = departs[i];
@@ -83,12 +79,10 @@ fn sweep(
     start: usize,
     departs: &mut [u64; NODES],
 ) -> usize
-    ghost w: { Net }
-    requires latch_value { web_of (arcs_of source.now lead.now cycle) first.now latch.now ≡ w }
-    requires sweepable { Sweepable w l }
+    requires sweepable { let w : Net = web_of (arcs_of source.now lead.now cycle) first.now latch.now in Sweepable w l }
     requires room { Room l l (times_of departs.old) × (length departs.old ≡ NODES) }
-    requires start_le_l { (start ≤ l) × Rested (side_of late) w (times_of departs.old) (to_or_fro forth l) start }
-    ensures { Sweep (side_of late) w l (times_of departs.old) (to_or_fro forth l) l departs.new result }
+    requires start_le_l { let w : Net = web_of (arcs_of source.now lead.now cycle) first.now latch.now in (start ≤ l) × Rested (side_of late) w (times_of departs.old) (to_or_fro forth l) start }
+    ensures { let w : Net = web_of (arcs_of source.now lead.now cycle) first.now latch.now in Sweep (side_of late) w l (times_of departs.old) (to_or_fro forth l) l departs.new result }
 {
     let mut last = l;
     let mut x = start;
@@ -117,11 +111,9 @@ pub(crate) fn settle(
     l: usize,
     departs: &mut [u64; NODES],
 ) -> bool
-    ghost w: { Net }
-    requires latch_value { web_of (arcs_of source.now lead.now cycle) first.now latch.now ≡ w }
-    requires sweepable { Sweepable w l }
+    requires sweepable { let w : Net = web_of (arcs_of source.now lead.now cycle) first.now latch.now in Sweepable w l }
     requires room { Room l RAISES (times_of departs.old) × (length departs.old ≡ NODES) }
-    ensures { Settling (side_of late) w l (times_of departs.old) departs.new result }
+    ensures { let w : Net = web_of (arcs_of source.now lead.now cycle) first.now latch.now in Settling (side_of late) w l (times_of departs.old) departs.new result }
 {
     let mut forth = true;
     let mut start: usize = 0;

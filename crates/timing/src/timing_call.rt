@@ -17,7 +17,7 @@ use image::{Checked, Image};
 
 // Refused, with the number of docs/RULES.md and the record at fault; a growing loop, with the number of its arcs and its gain; or timed, with the numbers
 // of missed setups and of missed holds.
-#[derive(Drop)]
+#[derive(Clone, Copy)]
 pub enum Answer {
     Refused(u32, u32),
     Growing(u32, i64),
@@ -39,12 +39,10 @@ fn tell(
     results: &mut [i64],
     arcs: &mut [u32],
 ) -> Missed
-    ghost c: { Circuit }
-    requires bytes_value { circuit_of bytes.now ≡ c }
     requires served { Served bytes.now results.old arcs.old × (image ≡ image_in bytes.now) }
-    requires loaded { Loaded c source.now late.now early.now first.now launch.old latch.now }
-    requires least_table { LeastTable side.late c later.now }
-    ensures told { Told c later.now results.old results.new result }
+    requires loaded { let c : Circuit = circuit_of bytes.now in Loaded c source.now late.now early.now first.now launch.old latch.now }
+    requires least_table { let c : Circuit = circuit_of bytes.now in LeastTable side.late c later.now }
+    ensures told { let c : Circuit = circuit_of bytes.now in Told c later.now results.old results.new result }
     ensures arcs_unchanged { arcs.new ≡ arcs.old }
 {
     let l = image.synchronizers as usize;

@@ -28,11 +28,9 @@ fn ahead(
     a: usize,
     b: usize,
 ) -> bool
-    ghost g: { Arcs }
-    requires cycle_value { arcs_of source.now lead.now cycle ≡ g }
     requires reachable_at { ReachableAt source.now departs.now a }
     requires reachable_at_2 { ReachableAt source.now departs.now b }
-    ensures { Tells (Ahead g (times_of departs.now) (times_of ranks.now) a b) result }
+    ensures { let g : Arcs = arcs_of source.now lead.now cycle in Tells (Ahead g (times_of departs.now) (times_of ranks.now) a b) result }
 {
     let x = bring(source, lead, cycle, departs, a);
     let y = bring(source, lead, cycle, departs, b);
@@ -57,11 +55,9 @@ fn nearest(
     from: usize,
     to: usize,
 ) -> usize
-    ghost g: { Arcs }
-    requires cycle_value { arcs_of source.now lead.now cycle ≡ g }
     requires from_lt_to { from < to }
     requires reachable { Reachable source.now departs.now to }
-    ensures { Nearest g (times_of departs.now) (times_of ranks.now) from to result }
+    ensures { let g : Arcs = arcs_of source.now lead.now cycle in Nearest g (times_of departs.now) (times_of ranks.now) from to result }
 {
     let mut arc = from;
     let mut a = from + 1;
@@ -87,12 +83,10 @@ fn step(
     i: usize,
     arcs: &mut [u32],
 ) -> usize
-    ghost g: { Arcs }
-    requires cycle_value { arcs_of source.now lead.now cycle ≡ g }
-    requires traceable { Traceable g (times_of first.now) l (times_of departs.now) (times_of ranks.now) }
+    requires traceable { let g : Arcs = arcs_of source.now lead.now cycle in Traceable g (times_of first.now) l (times_of departs.now) (times_of ranks.now) }
     requires i_lt_l { (i < l) × (l ≤ length arcs.old) }
     requires i_bound { get_or first.now i 0 < get_or first.now (i + 1) 0 }
-    ensures stepped { Stepped g (times_of first.now) (times_of departs.now) (times_of ranks.now) i result arcs.old arcs.new }
+    ensures stepped { let g : Arcs = arcs_of source.now lead.now cycle in Stepped g (times_of first.now) (times_of departs.now) (times_of ranks.now) i result arcs.old arcs.new }
     ensures upper_bound { result < l }
 {
     let arc = nearest(
@@ -147,7 +141,7 @@ fn back(
     )
 }
 
-#[derive(Drop)]
+#[derive(Clone, Copy)]
 pub(crate) struct Path {
     pub(crate) launch: u32,
     pub(crate) count: u32,
@@ -165,12 +159,10 @@ pub(crate) fn trace(
     i: usize,
     arcs: &mut [u32],
 ) -> Path
-    ghost g: { Arcs }
-    requires cycle_value { arcs_of source.now lead.now cycle ≡ g }
-    requires traceable { Traceable g (times_of first.now) l (times_of departs.now) (times_of ranks.now) }
+    requires traceable { let g : Arcs = arcs_of source.now lead.now cycle in Traceable g (times_of first.now) l (times_of departs.now) (times_of ranks.now) }
     requires i_lt_l { (i < l) × (l ≤ length arcs.old) }
     requires i_bound { get_or first.now i 0 < get_or first.now (i + 1) 0 }
-    ensures { PathWritten g (times_of first.now) (times_of departs.now) (times_of ranks.now) i result.launch result.count arcs.old arcs.new }
+    ensures { let g : Arcs = arcs_of source.now lead.now cycle in PathWritten g (times_of first.now) (times_of departs.now) (times_of ranks.now) i result.launch result.count arcs.old arcs.new }
 {
     let from = step(source, lead, cycle, first, l, departs, ranks, i, arcs);
     let before = index(ranks[from]);

@@ -9,6 +9,8 @@
 // number asked `path NUMBER launch SYNCHRONIZER arcs ARCS:` or `path NUMBER refused NUMBER RECORD`. Every place of a lent buffer that changed
 // is printed too, and no other: those of the arc buffer behind the answer, results below it, six a line behind the number of the
 // line, `-` for the mark. Where a place changed and one before it stayed, its number is printed first, as `@7`.
+#![tactic(auto)]
+
 ghost use Rattle.std.specs.Prelude.{◌≤◌};
 
 use libc::{STDIN_FILENO, STDOUT_FILENO};
