@@ -4,7 +4,7 @@ use mathlib.Core.Path.{◌≡◌, refl, sym, ap, subst, ◌∙◌}
 use mathlib.Core.Bool.{Bool, true, false, ◌||◌, not}
 use mathlib.Core.List.{List, [], ◌∷◌, ◌++◌, append_assoc}
 use mathlib.Core.Logic.{◌⊎◌, inl, inr, ◌≢◌}
-use Prim.Native.Nat.{ℕ, zero, ◌+◌, ◌-◌, ◌≤◌}
+use Prim.Native.Nat.{ℕ, ◌+◌, ◌≤◌}
 use native.Mathlib.Omega.{arith}
 use lib.Dec.{eqb}
 use lib.ListN.{length, take, drop, replicate, length-append, length-replicate, drop_of_length-le}
@@ -209,8 +209,8 @@ done text t room short k h =
     record { short = short; so_far = k; end = whole.0; begun = whole.1 }
 
 -- what is handed over is what the promise says
-pub handed_over : {text before after : List ℕ} {lines : List Line} {answer : Made} →
+pub handed_over : {text before : List ℕ} {lines : List Line} {after : List ℕ} {answer : Made} →
     Reads text lines → Handed (image_from lines) before answer after → TextCall text before answer after
-handed_over reads (handed.refused e) = promise.refused reads e
-handed_over reads (handed.short e l) = promise.short reads e l
-handed_over reads (handed.made e l) = promise.made reads e l
+handed_over r (handed.refused e) = promise.refused r e
+handed_over r (handed.short e l) = promise.short r e l
+handed_over r (handed.made e l) = promise.made r e l

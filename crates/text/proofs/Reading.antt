@@ -4,10 +4,10 @@ use mathlib.Core.Path.{◌≡◌, refl, sym, ap, subst, ◌∙◌}
 use mathlib.Core.Bool.{Bool, true, false, ◌&&◌, not}
 use mathlib.Core.List.{List, [], ◌∷◌, ◌++◌}
 use mathlib.Core.Logic.{◌≢◌}
-use Prim.Native.Nat.{ℕ, ◌+◌, ◌-◌, ◌*◌, ◌≤◌, ◌<◌}
+use Prim.Native.Nat.{ℕ, ◌+◌, ◌*◌, ◌≤◌, ◌<◌}
 use native.Mathlib.Omega.{arith}
 use lib.Dec.{eqb}
-use lib.ListN.{length, drop, set, replicate, length-append, length-drop}
+use lib.ListN.{length, drop, replicate, length-append, length-drop}
 use lib.Seq.{sets}
 use borrow.Author.Tests.{ne_eqb, eqb-false}
 use Rattle.image.specs.Header.{header_bytes, most_bytes}
@@ -26,7 +26,7 @@ use Rattle.grammar.proofs.InOrder.{cycle_append, phases_append, synchronizers_ap
 use Rattle.grammar.proofs.HeaderLaid.{phase_rows, synchronizer_rows, arc_rows, phases_long, synchronizers_long, arcs_long}
 use Rattle.grammar.proofs.WordsBack.{bytes_long}
 use Rattle.grammar.proofs.SmallLines.{begins_few, records_few}
-use Rattle.text.specs.Inside.Stores.{stored, stored_all, behind_words}
+use Rattle.text.specs.Inside.Stores.{stored_all, behind_words}
 use Rattle.text.specs.Inside.Tally.{tallied, Few, Of, Place, stuck, next, SoFar}
 use Rattle.text.specs.declared.tally.Tally.{Tally}
 use Rattle.text.proofs.Storing.{behind_words_lem, stored_all_lem}

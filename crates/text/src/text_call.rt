@@ -11,7 +11,6 @@ use crate::layout::{MOST, lay, put_header};
 use crate::lines::read_line;
 use crate::scan::LOST;
 use crate::tally::Tally;
-use bytes::copy;
 use grammar::Line;
 use image::{Checked, Header, Image, Part, bad_counts, bad_cycle, check};
 
@@ -124,7 +123,7 @@ fn hand_over(bytes: &[u8], image: &mut [u8]) -> Made
             if image.len() < bytes.len() {
                 return Made::Refused(16, 0);
             }
-            copy(bytes, image);
+            image[..bytes.len()].copy_from_slice(bytes);
             Made::Image(bytes.len() as u32)
         }
     }

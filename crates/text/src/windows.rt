@@ -92,7 +92,7 @@ fn closed(text: &[u8], w: Span) -> Span
     }
 }
 
-#[cycle(read_atom_read_branch_read_expression)]
+#[cycle(form)]
 fn read_atom(text: &[u8], at: usize, depth: u32) -> Span
     ensures { (f : ℕ) → enough atom text.now at ≤ f → result ≡ span_at f atom depth text.now at }
 {
@@ -109,7 +109,7 @@ fn read_atom(text: &[u8], at: usize, depth: u32) -> Span
     closed(text, read_expression(text, at + 1, depth - 1))
 }
 
-#[cycle(read_atom_read_branch_read_expression)]
+#[cycle(form)]
 fn read_branch(text: &[u8], at: usize, depth: u32) -> Span
     ensures { (f : ℕ) → enough branch text.now at ≤ f → result ≡ span_at f branch depth text.now at }
 {
@@ -120,7 +120,7 @@ fn read_branch(text: &[u8], at: usize, depth: u32) -> Span
     w
 }
 
-#[cycle(read_atom_read_branch_read_expression)]
+#[cycle(form)]
 fn read_expression(text: &[u8], at: usize, depth: u32) -> Span
     ensures { (f : ℕ) → enough expression text.now at ≤ f → result ≡ span_at f expression depth text.now at }
 {
