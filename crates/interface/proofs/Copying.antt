@@ -1,17 +1,16 @@
 -- A report that is copied from the buffer it was made in. The buffer holds the report and then what is left of it, so its first bytes, as
 -- many as the report has, are the report.
-use mathlib.Core.Path.{◌≡◌, sym, ◌∙◌}
+use mathlib.Core.Path.{◌≡◌, refl, sym, ◌∙◌}
 use mathlib.Core.List.{List, ◌++◌}
 use Prim.Native.Nat.{ℕ, ◌≤◌, ◌<◌}
 use native.Mathlib.Omega.{arith}
-use lib.Dec.{ltb}
 use lib.ListN.{length, take, drop, length-append}
-use lib.Seq.{length-take-le, take-length, take_at}
+use lib.Seq.{length-take-le, take_at}
 use borrow.Author.Tests.{lt-ltb, le-ltb}
 use Rattle.report.specs.Limits.{LONGEST}
 use Rattle.report.specs.Promise.{report_of, Report}
 use Rattle.report.proofs.Fits.{report_fits}
-use Rattle.interface.specs.Promise.{blank, copied, ReportForC}
+use Rattle.interface.specs.Promise.{blank, ReportForC}
 
 module _ {bytes : List ℕ} {size : ℕ} {whole : List ℕ} (r : Report bytes blank size whole) where
   -- the buffer is at least as long as the report
@@ -24,13 +23,9 @@ module _ {bytes : List ℕ} {size : ℕ} {whole : List ℕ} (r : Report bytes bl
   pub too_short : {before : List ℕ} → length before < size → ReportForC bytes before size before
   too_short {before} l = record { whole = whole; kept = r; written = rw (lt-ltb _ _ l) }
 
-  -- the copy gives the length of what it copied, and copies all of it
-  pub long_enough : {before after : List ℕ} {n : ℕ} → size ≤ length before → n ≡ length (take size whole) →
-      after ≡ take (length (take size whole)) (take size whole) ++ drop (length (take size whole)) before → ReportForC bytes before n after
-  long_enough {before} {after} l p e =
-      let written : after ≡ copied (ltb (length before) size) size whole before =
-      e ∙ rw (take-length (take size whole), part_long, le-ltb (length before) size l) in
-      rw (p, part_long) (record { whole = whole; kept = r; written = written })
+  -- the copy is of as many bytes as the report has
+  pub long_enough : {before after : List ℕ} → size ≤ length before → after ≡ take size whole ++ drop size before → ReportForC bytes before size after
+  long_enough {before} l e = record { whole = whole; kept = r; written = e ∙ rw (le-ltb (length before) size l) refl }
 
 -- what the promise says of the buffer: the report itself stands at its front, or nothing changed
 module _ {bytes before after : List ℕ} {size : ℕ} (c : ReportForC bytes before size after) where

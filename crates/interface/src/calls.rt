@@ -18,11 +18,7 @@ pub fn neelukudam_check(bytes: &[u8]) -> CheckAnswer
 }
 
 // Times the circuit.
-pub fn neelukudam_timing(
-    bytes: &[u8],
-    results: &mut [i64],
-    arcs: &mut [u32],
-) -> TimingAnswer
+pub fn neelukudam_timing(bytes: &[u8], results: &mut [i64], arcs: &mut [u32]) -> TimingAnswer
     ensures { TimingForC bytes.now results.old arcs.old result results.new arcs.new }
 {
     timing_answer(timing(bytes, results, arcs))
