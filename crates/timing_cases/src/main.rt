@@ -167,12 +167,7 @@ fn ask<W: Write>(
 }
 
 // Lends timing the front of two arrays.
-fn lend_both<W: Write>(
-    output: &mut W,
-    bytes: &[u8],
-    results: usize,
-    arcs: usize,
-) -> io::Result<()>
+fn lend_both<W: Write>(output: &mut W, bytes: &[u8], results: usize, arcs: usize) -> io::Result<()>
     requires results_bound { results ≤ 3100 }
     requires arcs_bound { arcs ≤ 600 }
 {
