@@ -20,7 +20,9 @@ use Rattle.timing.specs.TimingPromise.{Timing, refused, few_numbers, few_arcs, g
 use Rattle.timing.specs.declared.timing_call.Answer.{Answer}
 use Rattle.report.specs.Text.{text_of}
 use Rattle.report.specs.Promise.{zeros, no_arcs, Report}
-use Rattle.neelukudam.specs.Promise.{Whole}
+use Rattle.std.specs.declared.option.Option.{Option}
+use Rattle.std.specs.Io.KnownBytes.{Appends}
+use Rattle.neelukudam.specs.Promise.{Whole, Shows}
 
 -- two inputs, refused alike
 module _ (a b : List ℕ) (same : check_of a ≡ check_of b) (bad : check_of a ≡ Good (image_in a) → ⊥) where
@@ -67,3 +69,8 @@ within {buffer} {size = size} fits w =
     let front : length (take size buffer) ≤ length buffer = omega (arith, length-take-le size buffer fits) in
     let r = w.all (take size buffer) (take_all (length buffer) (take size buffer) front) in
     rw (r.written, length-append) (omega (arith, r.sized))
+
+-- a writer that took that text shows the report
+pub shows : {buffer before after : List ℕ} {size told : ℕ} {old new : Option (List ℕ)} → Whole buffer size before told after → Appends old new (take told after) →
+    Shows buffer size old new
+shows {before = before} {after} {told = told} w printed = λ input front. record { before = before; told = told; after = after; report = w.all input front; printed = printed }

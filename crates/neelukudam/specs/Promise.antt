@@ -1,6 +1,6 @@
 -- What the program promises of the text that it prints.
 use Rattle.std.specs.Prelude.{List, ℕ, take}
-use Rattle.core.specs.declared.option.Option.{Option}
+use Rattle.std.specs.declared.option.Option.{Option}
 use Rattle.std.specs.Io.KnownBytes.{Appends}
 use Rattle.image.specs.Front.{Front}
 use Rattle.report.specs.Promise.{Report}

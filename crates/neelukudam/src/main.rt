@@ -25,6 +25,7 @@ fn report_all(bytes: &[u8], size: usize, text: &mut [u8; LONGEST]) -> usize
 }
 
 // Prints that report.
+#[tactic(auto, using(crate::proofs::Whole::shows))]
 fn print_report<W: Write>(output: &mut W, bytes: &[u8], size: usize) -> io::Result<()>
     requires bytes_len { length bytes.now ≡ most_bytes + 1 }
     requires size_in_bounds { size ≤ length bytes.now }

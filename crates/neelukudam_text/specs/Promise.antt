@@ -1,5 +1,9 @@
 -- What the program promises of the image that it writes, or of the refusal that it tells.
-use Rattle.std.specs.Prelude.{◌≡◌, List, ℕ, length}
+use Rattle.std.specs.Prelude.{◌≡◌, List, ◌++◌, ℕ, length, take}
+use Rattle.std.specs.declared.option.Option.{Option}
+use Rattle.std.specs.Fmt.{decimal}
+use Rattle.std.specs.Io.KnownBytes.{Appends, Keeps}
+use lib.Chars.{codes}
 use Rattle.image.specs.Front.{Front}
 use Rattle.image.specs.Checks.{check_of}
 use Rattle.image.specs.declared.checks.Checked.{Checked}
@@ -22,3 +26,25 @@ pub record Whole (buffer : List ℕ) (size : ℕ) (before : List ℕ) (told : Ma
   -- there is room for every image: a text on the grammar is told what the check of its image says, and never that the buffer is too short
   pub room : (input : List ℕ) → Front input buffer size → (lines : List Line) → Reads input lines →
       told ≡ outcome (check_of (image_from lines)) (length (image_from lines))
+
+-- what a refusal is told in, with its line feed
+abbrev pub refusal : ℕ → ℕ → List ℕ
+refusal rule culprit = codes "refused " ++ decimal rule ++ codes " " ++ decimal culprit ++ codes "\n"
+
+-- the one writer has grown by the image and the other stays, or the other has grown by the refusal and the one stays
+abbrev pub Wrote : Made → List ℕ → Option (List ℕ) → Option (List ℕ) → Option (List ℕ) → Option (List ℕ) → Type 0
+Wrote (answer.Image bytes) image old new old_words words = Appends old new (take bytes image) × Keeps old_words words
+Wrote (answer.Refused rule culprit) image old new old_words words = Keeps old new × Appends old_words words (refusal rule culprit)
+
+-- what was written is the answer for an input, which is told what the check of its image says where it is on the grammar
+pub record Answers (input : List ℕ) (old new old_words words : Option (List ℕ)) : Type 0 where
+  pub before : List ℕ
+  pub told : Made
+  pub after : List ℕ
+  pub call : TextCall input before told after
+  pub room : (lines : List Line) → Reads input lines → told ≡ outcome (check_of (image_from lines)) (length (image_from lines))
+  pub wrote : Wrote told after old new old_words words
+
+-- it is that for the whole input, whichever it is, of which the buffer holds the front
+abbrev pub Shows : List ℕ → ℕ → Option (List ℕ) → Option (List ℕ) → Option (List ℕ) → Option (List ℕ) → Type 0
+Shows buffer size old new old_words words = (input : List ℕ) → Front input buffer size → Answers input old new old_words words

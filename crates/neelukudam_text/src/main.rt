@@ -2,12 +2,15 @@
 // goes to standard output. All that it says is worked out by the library.
 #![tactic(auto)]
 
-ghost use Rattle.std.specs.Prelude.{◌≡◌, ◌+◌, ◌≤◌, length};
+ghost use Rattle.std.specs.Prelude.{◌≡◌, ◌+◌, ◌≤◌, length, OnOk, IfSome};
+ghost use Rattle.std.specs.Io.KnownBytes.{Appends};
 ghost use Rattle.grammar.specs.Text.{longest_text};
-ghost use Rattle.neelukudam_text.specs.Promise.{Whole};
+ghost use Rattle.neelukudam_text.specs.Promise.{Whole, refusal, Shows, Answers};
 
 use image::Image;
-use libc::{STDERR_FILENO, STDIN_FILENO, STDOUT_FILENO};
+use std::io;
+use std::io::{Read, Write};
+use streams::read_full;
 use text::{LONGEST, Made, image_from_text};
 
 // One byte more than the longest text has, so that a longer one is seen to be too long.
@@ -27,32 +30,44 @@ fn make_all(text: &[u8], size: usize, image: &mut [u8; ROOM]) -> Made
 }
 
 // A refusal, in the words of a report.
-fn print_refusal(rule: u32, record: u32) {
-    io::write_all(STDERR_FILENO, b"refused ");
-    io::print_decimal(STDERR_FILENO, rule as u64);
-    io::write_all(STDERR_FILENO, b" ");
-    io::print_decimal(STDERR_FILENO, record as u64);
-    io::write_all(STDERR_FILENO, b"\n");
+fn print_refusal<W: Write>(refusals: &mut W, rule: u32, record: u32) -> io::Result<()>
+    ensures { OnOk result (Appends (W.contents refusals.old) (W.contents refusals.new) (refusal rule record)) }
+{
+    writeln!(refusals, "refused {rule} {record}")
 }
 
 // Writes that image, or what the text is refused for.
-fn print_image(text: &[u8], size: usize)
+fn print_image<W: Write, V: Write>(
+    output: &mut W,
+    refusals: &mut V,
+    text: &[u8],
+    size: usize,
+) -> io::Result<()>
     requires text_len { length text.now ≡ longest_text + 1 }
     requires size_in_bounds { size ≤ length text.now }
+    ensures { OnOk result (Shows text.now size (W.contents output.old) (W.contents output.new) (V.contents refusals.old) (V.contents refusals.new)) }
 {
     let mut image = [0u8; ROOM];
     match make_all(text, size, &mut image) {
-        Made::Image(bytes) => {
-            io::write_all(STDOUT_FILENO, &image[..bytes as usize]);
-        }
-        Made::Refused(rule, record) => {
-            print_refusal(rule, record);
-        }
+        Made::Image(bytes) => output.write_all(&image[..bytes as usize]),
+        Made::Refused(rule, record) => print_refusal(refusals, rule, record),
     }
 }
 
-fn main() {
+// Reads a text and writes its image, or what the text is refused for. Where the bytes of the input are known, the answer is that for all of
+// them.
+fn run<R: Read, W: Write, V: Write>(
+    input: &mut R,
+    output: &mut W,
+    refusals: &mut V,
+) -> io::Result<()>
+    ensures { OnOk result (IfSome (R.remaining input.old) (λ all. Answers all (W.contents output.old) (W.contents output.new) (V.contents refusals.old) (V.contents refusals.new))) }
+{
     let mut text = [0u8; MOST_READ];
-    let size = io::read_full(STDIN_FILENO, &mut text);
-    print_image(&text, size);
+    let size = read_full(input, &mut text)?;
+    print_image(output, refusals, &text, size)
+}
+
+fn main(rt: HostRuntime) -> io::Result<()> {
+    run(&mut rt.stdin(), &mut rt.stdout(), &mut rt.stderr())
 }

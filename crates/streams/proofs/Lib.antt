@@ -1,0 +1,2 @@
+-- What `read_full` comes to.
+pub mod Filled
