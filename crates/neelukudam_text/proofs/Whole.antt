@@ -22,7 +22,10 @@ use Rattle.grammar.proofs.OneReading.{reads_one, fault_one, reads_not_fault}
 use Rattle.text.specs.TextPromise.{TextCall, faulty, refused, short, made}
 use Rattle.text.specs.declared.text_call.Made.{Made}
 use Rattle.text.specs.declared.text_call.Made.TheVariants as answer
-use Rattle.neelukudam_text.specs.Promise.{outcome, Whole}
+use Rattle.std.specs.declared.option.Option.{Option}
+use Rattle.std.specs.Io.KnownBytes.{Appends}
+use Rattle.std.proofs.KnownBytes.{Keeps-refl}
+use Rattle.neelukudam_text.specs.Promise.{outcome, Whole, refusal, Shows}
 
 -- two texts that are too long
 module _ (a b : List ℕ) (long : longest_text < length a) (longer : longest_text < length b) {before : List ℕ} where
@@ -77,3 +80,26 @@ pub within : {buffer before after : List ℕ} {size n : ℕ} {told : Made} → s
 within {buffer} {size = size} fits w =
     let front : length (take size buffer) ≤ length buffer = omega (arith, length-take-le size buffer fits) in
     image_within (w.all (take size buffer) (take_all (length buffer) (take size buffer) front))
+
+-- a writer that took that image, or that refusal, while the other stays, shows the answer
+module _ {buffer before after : List ℕ} {size : ℕ} {old new : Option (List ℕ)} (other : Option (List ℕ)) where
+  pub image_shown : {n : ℕ} → Whole buffer size before (answer.Image n) after → Appends old new (take n after) → Shows buffer size old new other other
+  image_shown {n = n} w written = λ input front. record {
+    before = before;
+    told = answer.Image n;
+    after = after;
+    call = w.all input front;
+    room = w.room input front;
+    wrote = (written, Keeps-refl other);
+  }
+
+  pub refusal_shown : {rule culprit : ℕ} → Whole buffer size before (answer.Refused rule culprit) after → Appends old new (refusal rule culprit) →
+      Shows buffer size other other old new
+  refusal_shown {rule = rule} {culprit = culprit} w written = λ input front. record {
+    before = before;
+    told = answer.Refused rule culprit;
+    after = after;
+    call = w.all input front;
+    room = w.room input front;
+    wrote = (Keeps-refl other, written);
+  }

@@ -30,13 +30,14 @@ fn make_all(text: &[u8], size: usize, image: &mut [u8; ROOM]) -> Made
 }
 
 // A refusal, in the words of a report.
-fn print_refusal<W: Write>(refusals: &mut W, rule: u32, record: u32) -> io::Result<()>
-    ensures { OnOk result (Appends (W.contents refusals.old) (W.contents refusals.new) (refusal rule record)) }
+fn print_refusal<W: Write>(refusals: &mut W, rule: u32, culprit: u32) -> io::Result<()>
+    ensures { OnOk result (Appends (W.contents refusals.old) (W.contents refusals.new) (refusal rule culprit)) }
 {
-    writeln!(refusals, "refused {rule} {record}")
+    writeln!(refusals, "refused {rule} {culprit}")
 }
 
 // Writes that image, or what the text is refused for.
+#[tactic(auto, using(crate::proofs::Whole::image_shown, crate::proofs::Whole::refusal_shown))]
 fn print_image<W: Write, V: Write>(
     output: &mut W,
     refusals: &mut V,
@@ -50,7 +51,7 @@ fn print_image<W: Write, V: Write>(
     let mut image = [0u8; ROOM];
     match make_all(text, size, &mut image) {
         Made::Image(bytes) => output.write_all(&image[..bytes as usize]),
-        Made::Refused(rule, record) => print_refusal(refusals, rule, record),
+        Made::Refused(rule, culprit) => print_refusal(refusals, rule, culprit),
     }
 }
 

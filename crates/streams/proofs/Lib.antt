@@ -1,2 +1,0 @@
--- What `read_full` comes to.
-pub mod Filled
