@@ -2,6 +2,7 @@
 pub mod Enough
 pub mod Found
 pub mod Handing
+pub mod ReaderSteps
 pub mod Keys
 pub mod FirstBad
 pub mod OneOutcome
@@ -9,5 +10,6 @@ pub mod Orders
 pub mod RecordPlaces
 pub mod Tests
 pub mod Validity
+pub mod WalkSteps
 pub mod Words
 pub mod Lists
