@@ -32,7 +32,7 @@
  * Threads. There is no state: any number of calls may run at the same time, on the same image or text too. No call locks, blocks, makes a system
  * call or returns other than by its return. All of them end; the largest circuits take longest.
  *
- * What is proved. The five functions, as the source of crates/interface states them: that they never leave their memory, end, and give
+ * What is proved. The five functions, as the source of crates/interface_c states them: that they never leave their memory, end, and give
  * what docs/PROMISES.md says. This file is not part of a proof; tests/link holds it to the library.
  */
 #ifndef NEELUKUDAM_H
