@@ -42,9 +42,9 @@ fn tick(cycle: u32, closing: u32) -> u32
 fn load_phases(bytes: &[u8], image: Image, ticks: &mut [u32; PHASES], active: &mut [u32; PHASES])
     requires valid { Valid bytes.now }
     requires image_value { image ≡ image_in bytes.now }
-    requires ticks_len { (length ticks.old ≡ PHASES) × (length active.old ≡ PHASES) }
-    ensures filled { let c : Circuit = circuit_of bytes.now in Filled PHASES (tick c) ticks.new c.phases }
-    ensures filled_2 { let c : Circuit = circuit_of bytes.now in Filled PHASES c.active active.new c.phases }
+    requires long_enough { (length ticks.old ≡ PHASES) × (length active.old ≡ PHASES) }
+    ensures ticks_filled { let c : Circuit = circuit_of bytes.now in Filled PHASES (tick c) ticks.new c.phases }
+    ensures active_filled { let c : Circuit = circuit_of bytes.now in Filled PHASES c.active active.new c.phases }
 {
     let layout = image.layout;
     let mut p: u32 = 0;
@@ -103,9 +103,9 @@ fn load_nodes(
     requires launch_len { (length launch.old ≡ NODES) × (length latch.old ≡ NODES) }
     requires phase_len { (length phase.old ≡ NODES) × (length least.old ≡ NODES) × (length greatest.old ≡ NODES) }
     ensures loaded_nodes { let c : Circuit = circuit_of bytes.now in LoadedNodes c launch.new latch.new }
-    ensures filled_2 { let c : Circuit = circuit_of bytes.now in Filled NODES c.phase phase.new c.synchronizers }
-    ensures filled_3 { let c : Circuit = circuit_of bytes.now in Filled NODES c.least least.new c.synchronizers }
-    ensures filled_4 { let c : Circuit = circuit_of bytes.now in Filled NODES c.greatest greatest.new c.synchronizers }
+    ensures phases_filled { let c : Circuit = circuit_of bytes.now in Filled NODES c.phase phase.new c.synchronizers }
+    ensures least_filled { let c : Circuit = circuit_of bytes.now in Filled NODES c.least least.new c.synchronizers }
+    ensures greatest_filled { let c : Circuit = circuit_of bytes.now in Filled NODES c.greatest greatest.new c.synchronizers }
 {
     let mut i: u32 = 0;
     while i < image.synchronizers {

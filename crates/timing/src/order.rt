@@ -17,9 +17,9 @@ const STEPS: usize = 2 * ARCS;
 fn enlist(i: u16, l: usize, count: usize, marks: &mut [u8; NODES], list: &mut [u16; NODES]) -> usize
     requires i_lt_l { (i < l) × (l ≤ NODES) }
     requires enlisted { Enlisted l marks.old list.old count }
-    ensures enlisted_2 { Enlisted l marks.new list.new result }
+    ensures stays_enlisted { Enlisted l marks.new list.new result }
     ensures listed { Listed (times_of list.new) result i }
-    ensures by_index { (j : ℕ) → Listed (times_of list.old) count j → Listed (times_of list.new) result j }
+    ensures keeps_listed { (j : ℕ) → Listed (times_of list.old) count j → Listed (times_of list.new) result j }
 {
     if marks[index(i)] == 1 {
         return count;
@@ -87,9 +87,9 @@ fn step(
     requires fed { Fed (times_of source.now) (times_of first.now) l }
     requires stacked { Stacked l stack.old depth }
     requires enlisted { Enlisted l marks.old list.old count }
-    ensures stacked_2 { Stacked l stack.new result.depth }
-    ensures enlisted_2 { Enlisted l marks.new list.new result.count }
-    ensures by_index { (j : ℕ) → Listed (times_of list.old) count j → Listed (times_of list.new) result.count j }
+    ensures stays_stacked { Stacked l stack.new result.depth }
+    ensures stays_enlisted { Enlisted l marks.new list.new result.count }
+    ensures keeps_listed { (j : ℕ) → Listed (times_of list.old) count j → Listed (times_of list.new) result.count j }
 {
     let top = depth - 1;
     let i = stack[top];
@@ -126,9 +126,9 @@ fn explore(
     requires fed { Fed (times_of source.now) (times_of first.now) l }
     requires stack_len { length stack.old ≡ NODES }
     requires enlisted { Enlisted l marks.old list.old count }
-    ensures stack_len_2 { length stack.new ≡ NODES }
-    ensures enlisted_2 { Enlisted l marks.new list.new result }
-    ensures by_index { (j : ℕ) → Listed (times_of list.old) count j → Listed (times_of list.new) result j }
+    ensures keeps_stack_len { length stack.new ≡ NODES }
+    ensures stays_enlisted { Enlisted l marks.new list.new result }
+    ensures keeps_listed { (j : ℕ) → Listed (times_of list.old) count j → Listed (times_of list.new) result j }
 {
     let mut depth = push(first, l, i, 0, seen, stack, ahead);
     let mut listed = count;
@@ -158,7 +158,7 @@ pub(crate) fn arrange(
     requires l_bound { l ≤ NODES }
     requires fed { Fed (times_of source.now) (times_of first.now) l }
     requires order_len { length order.old ≡ NODES }
-    ensures order_len_2 { length order.new ≡ NODES }
+    ensures keeps_order_len { length order.new ≡ NODES }
     ensures order { Order l (times_of order.new) }
 {
     let mut seen = [0u8; NODES];

@@ -27,7 +27,7 @@ struct Stretch {
 // The first node that comes a second time: more nodes are walked than there are. A node that has come has its place noted, plus one.
 fn repeat(nodes: &[u16; FIRSTS], l: usize) -> Stretch
     requires l_bound { l ≤ NODES }
-    requires by_index { (d : ℕ) → d ≤ l → get_or nodes.now d 0 < l }
+    requires nodes_below { (d : ℕ) → d ≤ l → get_or nodes.now d 0 < l }
     ensures { Repeats (times_of nodes.now) l result.first result.second }
 {
     let mut places = [0u16; NODES];
@@ -86,7 +86,7 @@ fn write(trail: &[u16; NODES], high: usize, count: usize, at: usize, arcs: &mut 
 // The sum of the leads of the arcs from place `from` up to `to` of the walk back
 fn total(trail: &[u16; NODES], lead: &[u32; ARCS], from: usize, to: usize) -> u64
     requires from_le_to { (from ≤ to) × (to ≤ NODES) }
-    requires by_index { (d : ℕ) → d < to → get_or trail.now d 0 < ARCS }
+    requires arcs_below { (d : ℕ) → d < to → get_or trail.now d 0 < ARCS }
     ensures value { result ≡ leads (times_of lead.now) (route_back (times_of trail.now) to (to - from)) }
     ensures upper_bound { result ≤ (to - from) * 4294967296 }
 {
@@ -127,7 +127,7 @@ fn gained(
     second: usize,
 ) -> i64
     requires first_lt_low { (first < low) × (low ≤ second) × (second ≤ NODES) }
-    requires by_index { (d : ℕ) → d < second → get_or trail.now d 0 < ARCS }
+    requires arcs_below { (d : ℕ) → d < second → get_or trail.now d 0 < ARCS }
     ensures { result ≡ sub_ℕ (leads (times_of lead.now) (turned (times_of trail.now) first low second)) ((second - first) * cycle) }
 {
     let sum = total(trail, lead, first, low) + total(trail, lead, low, second);
@@ -144,8 +144,8 @@ fn show(
     arcs: &mut [u32],
 ) -> Ring
     requires l_bound { l ≤ NODES }
-    requires by_index { (d : ℕ) → d ≤ l → get_or nodes.now d 0 < l }
-    requires by_index_2 { (d : ℕ) → d < l → get_or trail.now d 0 < ARCS }
+    requires nodes_below { (d : ℕ) → d ≤ l → get_or nodes.now d 0 < l }
+    requires arcs_below { (d : ℕ) → d < l → get_or trail.now d 0 < ARCS }
     requires l_in_bounds { l ≤ length arcs.old }
     ensures { Turned (times_of nodes.now) (times_of trail.now) (times_of lead.now) cycle l result.count result.gain arcs.old arcs.new }
 {

@@ -11,8 +11,8 @@ use crate::sizes::{ARCS, FIRSTS, NODES};
 
 // The rank of the synchronizer that arc a leaves
 fn rank(source: &[u16; ARCS], ranks: &[u16; NODES], a: usize) -> usize
-    requires a_bound { a < ARCS }
-    requires a_bound_2 { get_or source.now a 0 < NODES }
+    requires arc_below { a < ARCS }
+    requires source_below { get_or source.now a 0 < NODES }
     ensures { (result ≡ times_of ranks.now (times_of source.now a)) × (result < 65536) }
 {
     index(ranks[index(source[a])])
@@ -28,8 +28,8 @@ fn ahead(
     a: usize,
     b: usize,
 ) -> bool
-    requires reachable_at { ReachableAt source.now departs.now a }
-    requires reachable_at_2 { ReachableAt source.now departs.now b }
+    requires first_reachable { ReachableAt source.now departs.now a }
+    requires second_reachable { ReachableAt source.now departs.now b }
     ensures { let g : Arcs = arcs_of source.now lead.now cycle in Tells (Ahead g (times_of departs.now) (times_of ranks.now) a b) result }
 {
     let x = bring(source, lead, cycle, departs, a);

@@ -20,8 +20,16 @@ active c = c.requires.filled.holds _ (known c).0
 
 pub returns-then-s-eq0 : goal.returns-then-s-eq0
 returns-then-s-eq0 c =
-    record { launched = launched_latch c.requires.valid c.requires.image_value c.requires.i_lt_synchronizers c.of-s.ensures c.if-s-eq0.true (active (goal.at.returns-then-s-eq0 c).After-of-s); phase_value = noted_known c.requires.valid c.requires.image_value c.requires.i_lt_synchronizers c.of-s.ensures }
+    let h = c.requires in
+    record {
+      launched = launched_latch h.valid h.image_value h.i_lt_synchronizers c.of-s.ensures c.if-s-eq0.true (active (goal.at.returns-then-s-eq0 c).After-of-s);
+      phase_value = noted_known h.valid h.image_value h.i_lt_synchronizers c.of-s.ensures;
+    }
 
 pub returns-else-s-eq0 : goal.returns-else-s-eq0
 returns-else-s-eq0 c =
-    record { launched = launched_flop c.requires.valid c.requires.image_value c.requires.i_lt_synchronizers c.of-s.ensures c.if-s-eq0.false; phase_value = noted_known c.requires.valid c.requires.image_value c.requires.i_lt_synchronizers c.of-s.ensures }
+    let h = c.requires in
+    record {
+      launched = launched_flop h.valid h.image_value h.i_lt_synchronizers c.of-s.ensures c.if-s-eq0.false;
+      phase_value = noted_known h.valid h.image_value h.i_lt_synchronizers c.of-s.ensures;
+    }

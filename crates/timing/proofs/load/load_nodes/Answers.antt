@@ -8,4 +8,4 @@ use Rattle.timing.proofs.load.load_nodes.Goals as goal
 pub returns : goal.returns
 returns c =
     let n : c.loop-i.i ≡ (circuit_of c.args.bytes.now).synchronizers = omega (arith, (counts _ _ c.requires.image_value).synchronizers) in
-    record { loaded_nodes = rw n at c.loop-i.invariant.1; filled_2 = rw n at c.loop-i.invariant.2; filled_3 = rw n at c.loop-i.invariant.3; filled_4 = rw n at c.loop-i.invariant.4 }
+    record { loaded_nodes = rw n at c.loop-i.invariant.1; phases_filled = rw n at c.loop-i.invariant.2; least_filled = rw n at c.loop-i.invariant.3; greatest_filled = rw n at c.loop-i.invariant.4 }

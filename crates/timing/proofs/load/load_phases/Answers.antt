@@ -32,4 +32,4 @@ loop-p-preserved c =
 pub returns : goal.returns
 returns c =
     let n : c.loop-p.p ≡ (circuit_of c.args.bytes.now).phases = omega (arith, (counts _ _ c.requires.image_value).phases) in
-    record { filled = rw n at c.loop-p.invariant.1; filled_2 = rw n at c.loop-p.invariant.2 }
+    record { ticks_filled = rw n at c.loop-p.invariant.1; active_filled = rw n at c.loop-p.invariant.2 }

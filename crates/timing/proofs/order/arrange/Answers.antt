@@ -13,10 +13,13 @@ loop-i-init c = (omega arith, refl, enlist_none refl c.requires.order_len (zero_
 pub loop-i-preserved : goal.loop-i-preserved
 loop-i-preserved c = (
   omega (arith, c.loop-i-test.true),
-  c.explore-listed.ensures.stack_len_2,
-  c.enlist-count.ensures.enlisted_2,
-  λ j k. elim (ℕ_discrete j c.loop-i.i) [ yes q ↦ rw (q, ← c.narrow-node.ensures) c.enlist-count.ensures.listed | no q ↦ c.enlist-count.ensures.by_index j (c.explore-listed.ensures.by_index j (c.loop-i.invariant.3 j (omega arith))) ],
+  c.explore-listed.ensures.keeps_stack_len,
+  c.enlist-count.ensures.stays_enlisted,
+  λ j k. elim (ℕ_discrete j c.loop-i.i) [
+    | yes q ↦ rw (q, ← c.narrow-node.ensures) c.enlist-count.ensures.listed
+    | no q ↦ c.enlist-count.ensures.keeps_listed j (c.explore-listed.ensures.keeps_listed j (c.loop-i.invariant.3 j (omega arith)))
+  ],
 )
 
 pub returns : goal.returns
-returns c = record { order_len_2 = c.loop-i.invariant.2.long.1; order = enlist_all c.loop-i.invariant.2 (λ j k. c.loop-i.invariant.3 j (omega (arith, c.loop-i-test.false))) }
+returns c = record { keeps_order_len = c.loop-i.invariant.2.long.1; order = enlist_all c.loop-i.invariant.2 (λ j k. c.loop-i.invariant.3 j (omega (arith, c.loop-i-test.false))) }

@@ -29,7 +29,7 @@ returns c =
     let unseen = new (goal.at.returns c).After-index-2 in
     let l = c.requires.i_lt_l in
     rw c.index-2.ensures.0 (record {
-      enlisted_2 = enlist_new c.args.i l.0 l.1 c.requires.enlisted unseen;
+      stays_enlisted = enlist_new c.args.i l.0 l.1 c.requires.enlisted unseen;
       listed = enlist_here c.args.i l.0 l.1 c.requires.enlisted unseen;
-      by_index = enlist_kept c.args.i l.0 l.1 c.requires.enlisted unseen;
+      keeps_listed = enlist_kept c.args.i l.0 l.1 c.requires.enlisted unseen;
     })

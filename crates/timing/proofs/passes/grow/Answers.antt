@@ -23,7 +23,11 @@ returns-then-last-l c =
 pub close-ring-requires : goal.close-ring-requires
 close-ring-requires c =
     let order = order_turned c.loop-n.forth c.arrange.ensures.order in
-    let k = climb_more c.requires.sweepable.0 c.loop-n.invariant.1 c.loop-n-test.true order c.pass-last.ensures in record { n_nonzero = (omega arith, c.requires.sweepable.0.shaped.nodes, omega (arith, c.if-last-l.false), rw c.loop-n.invariant.0 c.requires.sweepable.1); parents_in = parents_in c.requires.sweepable.0.shaped k.course.parented }
+    let k = climb_more c.requires.sweepable.0 c.loop-n.invariant.1 c.loop-n-test.true order c.pass-last.ensures in
+    record {
+      n_nonzero = (omega arith, c.requires.sweepable.0.shaped.nodes, omega (arith, c.if-last-l.false), rw c.loop-n.invariant.0 c.requires.sweepable.1);
+      parents_in = parents_in c.requires.sweepable.0.shaped k.course.parented;
+    }
 
 pub returns-then-ring-gt0 : goal.returns-then-ring-gt0
 returns-then-ring-gt0 c =

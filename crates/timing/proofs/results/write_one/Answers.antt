@@ -9,12 +9,21 @@ arrivals_of-a-requires c =
 
 pub write_six-requires : goal.write_six-requires
 write_six-requires c =
-    record { tellable = told_as c.requires.writable c.args.i c.requires.i_lt_synchronizers c.arrivals_of-a.ensures; sooner_bound = (omega (arith, c.requires.writable.sooner.high c.args.i c.requires.i_lt_synchronizers), omega (arith, c.requires.writable.later.high c.args.i c.requires.i_lt_synchronizers)); at_in_bounds = omega (arith, c.requires.synchronizers_in_bounds, c.requires.i_lt_synchronizers) }
+    let w = c.requires.writable in
+    let l = c.requires.i_lt_synchronizers in
+    record {
+      tellable = told_as w c.args.i l c.arrivals_of-a.ensures;
+      sooner_bound = (omega (arith, w.sooner.high c.args.i l), omega (arith, w.later.high c.args.i l));
+      at_in_bounds = omega (arith, c.requires.synchronizers_in_bounds, l);
+    }
 
 pub count_missed-requires : goal.count_missed-requires
 count_missed-requires c =
-    let h = ((opened c.requires.writable c.args.i c.requires.i_lt_synchronizers).here) in
-    record { tellable = told_as c.requires.writable c.args.i c.requires.i_lt_synchronizers c.arrivals_of-a.ensures; setups_bound = (omega (arith, c.requires.setups_le_i), omega (arith, c.requires.setups_le_i)) }
+    let h = (opened c.requires.writable c.args.i c.requires.i_lt_synchronizers).here in
+    record {
+      tellable = told_as c.requires.writable c.args.i c.requires.i_lt_synchronizers c.arrivals_of-a.ensures;
+      setups_bound = (omega (arith, c.requires.setups_le_i), omega (arith, c.requires.setups_le_i));
+    }
 
 pub returns : goal.returns
 returns c =

@@ -12,7 +12,13 @@ loop-i-init c = (omega arith, refl, written_none)
 
 pub write_one-missed-requires : goal.write_one-missed-requires
 write_one-missed-requires c =
-    let h : c.loop-i.i < c.args.image.synchronizers = omega (arith, c.loop-i-test.true) in record { writable = c.requires.writable; synchronizers_in_bounds = omega (arith, c.requires.synchronizers_in_bounds, c.loop-i.invariant.1); i_lt_synchronizers = h; setups_le_i = (rw c.loop-i.invariant.2.setups (count_few _ c.loop-i.i), rw c.loop-i.invariant.2.holds (count_few _ c.loop-i.i)) }
+    let h : c.loop-i.i < c.args.image.synchronizers = omega (arith, c.loop-i-test.true) in
+    record {
+      writable = c.requires.writable;
+      synchronizers_in_bounds = omega (arith, c.requires.synchronizers_in_bounds, c.loop-i.invariant.1);
+      i_lt_synchronizers = h;
+      setups_le_i = (rw c.loop-i.invariant.2.setups (count_few _ c.loop-i.i), rw c.loop-i.invariant.2.holds (count_few _ c.loop-i.i));
+    }
 
 pub loop-i-preserved : goal.loop-i-preserved
 loop-i-preserved c =

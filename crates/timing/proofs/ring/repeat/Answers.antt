@@ -18,7 +18,7 @@ returns-then-place-gt0 c =
 pub loop-d-preserved : goal.loop-d-preserved
 loop-d-preserved c =
     let few : times_of c.args.nodes.now c.loop-d.d < NODES =
-    omega (arith, c.requires.l_bound, c.requires.by_index c.loop-d.d (omega (arith, c.loop-d-test.true))) in (
+    omega (arith, c.requires.l_bound, c.requires.nodes_below c.loop-d.d (omega (arith, c.loop-d-test.true))) in (
       omega (arith, c.loop-d-test.true),
       rw (c.index-node.ensures.0, c.narrow.ensures) (placed_more c.loop-d.invariant.1 few
           (rw (← c.index-node.ensures.0) (omega (arith, c.index-place.ensures.0, c.if-place-gt0.false)))),
@@ -27,4 +27,4 @@ loop-d-preserved c =
 pub returns : goal.returns
 returns c =
     let e : c.loop-d.d ≡ c.args.l + 1 = omega arith in
-    absurd (fresh_few (times_of c.args.nodes.now) c.args.l c.requires.by_index (placed_fresh (rw e at c.loop-d.invariant.1)))
+    absurd (fresh_few (times_of c.args.nodes.now) c.args.l c.requires.nodes_below (placed_fresh (rw e at c.loop-d.invariant.1)))

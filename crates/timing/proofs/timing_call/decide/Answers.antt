@@ -14,7 +14,7 @@ use Rattle.timing.proofs.timing_call.decide.Goals as goal
 use Rattle.timing.proofs.timing_call.decide.Goals.{Else-ring-gt0}
 
 known : (c : goal.Else-ring-gt0) → LeastTable late (circuit_of c.args.bytes.now) c.rise-ring.new.departs × (c.rise-ring.new.arcs ≡ c.args.arcs.now)
-known c = risen_known (((accepts _).1 c.requires.served.0.good)) c.requires.served.1 c.requires.loaded late c.rise-ring.ensures (omega (arith, c.if-ring-gt0.false)) tt
+known c = risen_known ((accepts _).1 c.requires.served.0.good) c.requires.served.1 c.requires.loaded late c.rise-ring.ensures (omega (arith, c.if-ring-gt0.false)) tt
 
 pub rise-ring-requires : goal.rise-ring-requires
 rise-ring-requires c =
@@ -24,7 +24,7 @@ rise-ring-requires c =
 pub returns-then-ring-gt0 : goal.returns-then-ring-gt0
 returns-then-ring-gt0 c =
     rw (out_of_word c.rise-ring.result.gain (search rules))
-    (growing c.requires.served.0 (risen_ring (((accepts _).1 c.requires.served.0.good)) c.requires.served.1 c.requires.loaded late c.rise-ring.ensures c.if-ring-gt0.true))
+    (growing c.requires.served.0 (risen_ring ((accepts _).1 c.requires.served.0.good) c.requires.served.1 c.requires.loaded late c.rise-ring.ensures c.if-ring-gt0.true))
 
 pub tell-missed-requires : goal.tell-missed-requires
 tell-missed-requires c =

@@ -15,9 +15,13 @@ rise-requires c =
 pub write_results-requires : goal.write_results-requires
 write_results-requires c =
     let v = ((accepts _).1 c.requires.served.0.good) in
-    record { writable = write v c.requires.served.1 c.requires.loaded c.requires.least_table (risen_early v c.requires.served.1 c.requires.loaded c.requires.least_table c.rise.ensures).0; synchronizers_in_bounds = omega (arith, (counts _ _ c.requires.served.1).synchronizers, c.requires.served.0.numbers_fit) }
+    let h = c.requires in
+    record {
+      writable = write v h.served.1 h.loaded h.least_table (risen_early v h.served.1 h.loaded h.least_table c.rise.ensures).0;
+      synchronizers_in_bounds = omega (arith, (counts _ _ h.served.1).synchronizers, h.served.0.numbers_fit);
+    }
 
 pub returns : goal.returns
 returns c =
-    let e = risen_early (((accepts _).1 c.requires.served.0.good)) c.requires.served.1 c.requires.loaded c.requires.least_table c.rise.ensures in
+    let e = risen_early ((accepts _).1 c.requires.served.0.good) c.requires.served.1 c.requires.loaded c.requires.least_table c.rise.ensures in
     record { told = record { soonest = _; least = e.0.least; written = c.write_results.ensures }; arcs_unchanged = e.1 }
