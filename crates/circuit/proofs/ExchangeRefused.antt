@@ -4,17 +4,22 @@ use mathlib.Core.Path.{◌≡◌, refl, sym, ◌∙◌}
 use mathlib.Core.Bool.{Bool, true, false, not}
 use mathlib.Core.List.{List}
 use mathlib.Core.Logic.{◌↔◌, ◌⊎◌, inl, inr}
+use Rattle.std.specs.Prelude.{Result, Err}
 use Prim.Native.Nat.{ℕ, suc, ◌<◌, ◌-◌}
 use native.Mathlib.Omega.{arith}
 use lib.Dec.{ltb, leb, eqb}
 use lib.ListN.{length}
 use Rattle.image.specs.Header.{header_bytes, header_of}
 use Rattle.image.specs.Rules.{bad_cycle, bad_counts, bad_layout, bad_phase, bad_synchronizer, bad_arc, bad_order, lowest_of}
+use Rattle.image.specs.Refusal.{refusal}
 use Rattle.image.specs.Checks.{refuse, refuse_at, records_of, check_of}
 use Rattle.image.specs.Valid.{image_in, synchronizer_in}
 use Rattle.image.specs.declared.header.Header.{Header}
-use Rattle.image.specs.declared.checks.Checked.{Checked}
-use Rattle.image.specs.declared.checks.Checked.TheVariants.{Refused}
+use Rattle.image.specs.declared.header.Image.{Image}
+use Rattle.image.specs.declared.refusal.Rule.{Rule}
+use Rattle.image.specs.declared.refusal.Rule.TheVariants as by
+use Rattle.image.specs.declared.refusal.Refusal.{Refusal}
+use Rattle.image.proofs.Alike.{rule_alike, record_alike}
 use Rattle.image.proofs.Tests.{leb_iff}
 use Rattle.image.proofs.FirstBad.{lowest_is, lowest_eq}
 use Rattle.image.proofs.Validity.{none_iff, phase_iff}
@@ -22,15 +27,15 @@ use Rattle.circuit.specs.Exchange.{swapped, Exchanged}
 use Rattle.circuit.proofs.Exchange.{swapped_back, swapped_below, both_there, phase_was, closing_same, phases_same, synchronizers_same, arcs_same, cycle_same, exchanged_back}
 
 -- a refusal stays, with its rule, and with its record unless the rule is that of phases
-abbrev Kept : Checked → Checked → Type 0
-Kept a b = (rule n : ℕ) → a ≡ Refused rule n → (m : ℕ) × (b ≡ Refused rule m) × ((m ≡ n) ⊎ (rule ≡ 6))
+abbrev Kept : Result Image Refusal → Result Image Refusal → Type 0
+Kept a b = (rule : Rule) (n : ℕ) → a ≡ Err (refusal rule n) → (m : ℕ) × (b ≡ Err (refusal rule m)) × ((m ≡ n) ⊎ (rule ≡ by.Phases))
 
 -- one rule before the rest, where its test answers alike
-refuse_kept : (b d : Bool) (rule c e : ℕ) {rest rest' : Checked} → d ≡ b → (e ≡ c) ⊎ (rule ≡ 6) → Kept rest rest' →
+refuse_kept : (b d : Bool) (rule : Rule) (c e : ℕ) {rest rest' : Result Image Refusal} → d ≡ b → (e ≡ c) ⊎ (rule ≡ by.Phases) → Kept rest rest' →
     Kept (refuse b rule c rest) (refuse d rule e rest')
 refuse_kept true d rule c e same place kept r n h =
-    let f : rule ≡ r = cc in
-    let g : c ≡ n = cc in
+    let f = rule_alike h in
+    let g = record_alike h in
     rw same (e, rw f, rw (f, g) at place)
 refuse_kept false d rule c e same place kept r n h = rw same (kept r n h)
 
@@ -45,7 +50,7 @@ lowest_same bad bad' n same =
     })
 
 -- one rule about a table, where its test agrees on each record
-table_kept : (bad bad' : ℕ → Bool) (n m rule : ℕ) {rest rest' : Checked} → m ≡ n → ((i : ℕ) → i < n → bad' i ≡ bad i) → Kept rest rest' →
+table_kept : (bad bad' : ℕ → Bool) (n m : ℕ) (rule : Rule) {rest rest' : Result Image Refusal} → m ≡ n → ((i : ℕ) → i < n → bad' i ≡ bad i) → Kept rest rest' →
     Kept (refuse_at bad n rule rest) (refuse_at bad' m rule rest')
 table_kept bad bad' n m rule e same =
     let f : lowest_of bad' m ≡ lowest_of bad n = rw e (lowest_same bad bad' n same) in
@@ -113,14 +118,14 @@ module _ (p : ℕ) (first second : List ℕ) (x : Exchanged p first second) wher
   tables_kept : Kept (records_of first (image_in first)) (records_of second (image_in second))
   unfolding records_of
   tables_kept =
-      refuse_kept _ _ 6 _ _ phase_test (inr refl)
-      (table_kept _ _ _ _ 7 (synchronizers_same p first second x) synchronizer_test
-      (table_kept _ _ _ _ 8 (arcs_same p first second x) arc_test
-      (table_kept _ _ _ _ 9 (arcs_same p first second x) order_test
+      refuse_kept _ _ by.Phases _ _ phase_test (inr refl)
+      (table_kept _ _ _ _ by.Synchronizers (synchronizers_same p first second x) synchronizer_test
+      (table_kept _ _ _ _ by.Arcs (arcs_same p first second x) arc_test
+      (table_kept _ _ _ _ by.Order (arcs_same p first second x) order_test
       (λ rule n h. (n, cc, inl refl)))))
 
   -- a rule about the header and how long the image is, which are the same
-  header_kept : (bad : Header → ℕ → Bool) (rule : ℕ) {rest rest' : Checked} → Kept rest rest' →
+  header_kept : (bad : Header → ℕ → Bool) (rule : Rule) {rest rest' : Result Image Refusal} → Kept rest rest' →
       Kept (refuse (bad (header_of first) (length first)) rule 0 rest) (refuse (bad (header_of second) (length second)) rule 0 rest')
   header_kept bad rule =
       let same : bad (header_of second) (length second) ≡ bad (header_of first) (length first) = rw (x.header, x.long) in
@@ -129,12 +134,12 @@ module _ (p : ℕ) (first second : List ℕ) (x : Exchanged p first second) wher
   image_kept : Kept (check_of first) (check_of second)
   unfolding check_of
   image_kept =
-      header_kept (λ h n. ltb n header_bytes) 1
-      (header_kept (λ h n. not (eqb h.version 1)) 2
-      (header_kept (λ h n. bad_cycle h) 3
-      (header_kept (λ h n. bad_counts h) 4
-      (header_kept bad_layout 5 tables_kept))))
+      header_kept (λ h n. ltb n header_bytes) by.Length
+      (header_kept (λ h n. not (eqb h.version 1)) by.Version
+      (header_kept (λ h n. bad_cycle h) by.Cycle
+      (header_kept (λ h n. bad_counts h) by.Counts
+      (header_kept bad_layout by.Layout tables_kept))))
 
   -- an image that is refused stays refused by the same rule; and for the same record, but where phases are at fault
-  pub exchanged_refused : {rule n : ℕ} → check_of first ≡ Refused rule n → (m : ℕ) × (check_of second ≡ Refused rule m) × ((m ≡ n) ⊎ (rule ≡ 6))
+  pub exchanged_refused : {rule : Rule} {n : ℕ} → check_of first ≡ Err (refusal rule n) → (m : ℕ) × (check_of second ≡ Err (refusal rule m)) × ((m ≡ n) ⊎ (rule ≡ by.Phases))
   exchanged_refused {rule} {n} = image_kept rule n

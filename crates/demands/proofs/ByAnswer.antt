@@ -1,13 +1,16 @@
 -- What a call to timing leaves, by its answer. Where the image is good and the buffers are long enough, it times or shows a loop.
-use mathlib.Core.Path.{◌≡◌, refl}
+use mathlib.Core.Path.{◌≡◌, refl, sym, ◌∙◌}
 use mathlib.Core.List.{List, ◌++◌}
 use mathlib.Core.Logic.{◌⊎◌, inl, inr}
+use Rattle.std.specs.Prelude.{Result, Ok}
 use Prim.Native.Nat.{ℕ, ◌*◌, ◌<◌}
 use native.Mathlib.Omega.{arith}
 use lib.IntN.{ℤ, pos}
 use lib.ListN.{get_or, drop}
 use lib.Seq.{drop_at}
 use Rattle.image.proofs.Validity.{accepts}
+use Rattle.image.specs.declared.refusal.Refusal.{Refusal}
+use Rattle.image.proofs.Alike.{err_is_not_ok}
 use Rattle.flow.specs.Flow.{late}
 use Rattle.flow.specs.Walk.{Shown}
 use Rattle.circuit.specs.Circuit.{Circuit, circuit_of}
@@ -45,21 +48,21 @@ defined c E D numbers t =
     }
 
 module _ (bytes : List ℕ) (numbers : List ℤ) (arcs : List ℕ) where
-  pub outcome : {X : Answer} {R : List ℤ} {A : List ℕ} → Served bytes numbers arcs → Timing bytes numbers arcs X R A → IsTimed X ⊎ IsLoop X
-  outcome s (refused e) = let k = s.good in let z : ◌≡◌ {A = ℕ} 0 1 = cc in let y : ⊥ = omega arith in absurd y
+  pub outcome : {X : Result Answer Refusal} {R : List ℤ} {A : List ℕ} → Served bytes numbers arcs → Timing bytes numbers arcs X R A → IsTimed X ⊎ IsLoop X
+  outcome s (refused e) = absurd (err_is_not_ok (sym e ∙ s.good))
   outcome s (few_numbers ok l) = let z : ⊥ = omega (arith, s.numbers_fit) in absurd z
   outcome s (few_arcs ok k l) = let z : ⊥ = omega (arith, s.arcs_fit) in absurd z
   outcome s (growing w k) = inr (_, _, refl)
   outcome s (timed E D w t) = inl (_, _, refl)
 
-  pub timed_served : {setups holds : ℕ} {R : List ℤ} {A : List ℕ} → Timing bytes numbers arcs (Timed setups holds) R A → Served bytes numbers arcs
+  pub timed_served : {setups holds : ℕ} {R : List ℤ} {A : List ℕ} → Timing bytes numbers arcs (Ok (Timed setups holds)) R A → Served bytes numbers arcs
   timed_served (timed E D s t) = s
 
-  pub timed_defined : {setups holds : ℕ} {R : List ℤ} {A : List ℕ} → Timing bytes numbers arcs (Timed setups holds) R A →
+  pub timed_defined : {setups holds : ℕ} {R : List ℤ} {A : List ℕ} → Timing bytes numbers arcs (Ok (Timed setups holds)) R A →
       Defined (circuit_of bytes) setups holds numbers R × (A ≡ arcs)
   timed_defined (timed E D s t) = (defined (circuit_of bytes) E D numbers t, refl)
 
-  pub loop_shown : {n : ℕ} {g : ℤ} {R : List ℤ} {A : List ℕ} → Timing bytes numbers arcs (Growing n g) R A →
+  pub loop_shown : {n : ℕ} {g : ℤ} {R : List ℤ} {A : List ℕ} → Timing bytes numbers arcs (Ok (Growing n g)) R A →
       Shown (flow late (circuit_of bytes)) n g arcs A × (R ≡ numbers)
   loop_shown (growing s k) = (k, refl)
 

@@ -3,14 +3,16 @@
 use mathlib.Core.Path.{◌≡◌, sym, ap, ◌∙◌}
 use mathlib.Core.List.{List, ◌++◌}
 use mathlib.Core.Logic.{◌↔◌}
+use Rattle.std.specs.Prelude.{Result, Ok}
 use Prim.Native.Nat.{ℕ, ◌*◌}
 use native.Mathlib.Omega.{arith}
 use lib.IntN.{ℤ}
 use lib.ListN.{drop}
 use Rattle.image.specs.Checks.{check_of}
 use Rattle.image.specs.Valid.{image_in, Valid}
-use Rattle.image.specs.declared.checks.Checked.TheVariants.{Good}
+use Rattle.image.specs.declared.refusal.Refusal.{Refusal}
 use Rattle.image.proofs.Validity.{accepts}
+use Rattle.image.proofs.Alike.{err_is_not_ok}
 use Rattle.flow.specs.Flow as flows
 use Rattle.flow.specs.Flow.{Side, late, early, Least}
 use Rattle.flow.proofs.Agree.{agree_self, unentered_same, least_same}
@@ -30,7 +32,7 @@ use Rattle.timing.specs.PathPromise as path
 use Rattle.timing.specs.PathPromise.{Asked, PathCall}
 use Rattle.timing.specs.declared.timing_call.Answer.{Answer}
 use Rattle.timing.specs.declared.timing_call.Answer.TheVariants.{Timed}
-use Rattle.timing.specs.declared.path_call.Way.{Way}
+use Rattle.timing.specs.declared.trail.Path.{Path}
 use Rattle.report.specs.Promise.{Report, zeros, no_arcs}
 use Rattle.demands.specs.Requests.{PhasesExchanged}
 
@@ -44,10 +46,10 @@ module _ (p : ℕ) (first second : List ℕ) (x : Exchanged p first second) (v :
   alike : Alike c d
   alike = exchanged_alike p first second x v
 
-  accepted : check_of first ≡ Good (image_in first)
+  accepted : check_of first ≡ Ok (image_in first)
   accepted = (accepts first).0 v
 
-  good_too : check_of second ≡ Good (image_in second)
+  good_too : check_of second ≡ Ok (image_in second)
   good_too = (accepts second).0 (exchanged_valid p first second x v)
 
   nodes : d.synchronizers ≡ c.synchronizers
@@ -68,11 +70,11 @@ module _ (p : ℕ) (first second : List ℕ) (x : Exchanged p first second) (v :
 
     timed_as : (E D : ℕ → ℤ) → Served second numbers arcs → Times d E D → {setups holds : ℕ} {R : List ℤ} → missed_setups d D ≡ setups →
         missed_holds d E ≡ holds → results d E D d.synchronizers ++ drop (6 * d.synchronizers) numbers ≡ R →
-        Timing second numbers arcs (Timed setups holds) R arcs
+        Timing second numbers arcs (Ok (Timed setups holds)) R arcs
     timed_as E D s t e f g = rw (← e, ← f, ← g) (timing.timed E D s t)
 
-    timing_carried : {X : Answer} {R : List ℤ} {A : List ℕ} → Timing first numbers arcs X R A → Timing second numbers arcs X R A
-    timing_carried (timing.refused e) = let k = accepted in let z : ◌≡◌ {A = ℕ} 0 1 = cc in let y : ⊥ = omega arith in absurd y
+    timing_carried : {X : Result Answer Refusal} {R : List ℤ} {A : List ℕ} → Timing first numbers arcs X R A → Timing second numbers arcs X R A
+    timing_carried (timing.refused e) = absurd (err_is_not_ok (sym e ∙ accepted))
     timing_carried (timing.few_numbers ok l) = timing.few_numbers good_too (rw nodes l)
     timing_carried (timing.few_arcs ok k l) = timing.few_arcs good_too (rw nodes k) (rw nodes l)
     timing_carried (timing.growing s k) =
@@ -87,8 +89,8 @@ module _ (p : ℕ) (first second : List ℕ) (x : Exchanged p first second) (v :
         (ap (λ (n : ℕ). results d E D n ++ drop (6 * n) numbers) nodes
         ∙ ap (λ (r : List ℤ). r ++ drop (6 * c.synchronizers) numbers) (results_alike c d same alike E D E D sooner later c.synchronizers (omega arith)))
 
-    path_carried : (i : ℕ) {X : Way} {A : List ℕ} → PathCall first i arcs X A → PathCall second i arcs X A
-    path_carried i (path.refused e) = let k = accepted in let z : ◌≡◌ {A = ℕ} 0 1 = cc in let y : ⊥ = omega arith in absurd y
+    path_carried : (i : ℕ) {X : Result Path Refusal} {A : List ℕ} → PathCall first i arcs X A → PathCall second i arcs X A
+    path_carried i (path.refused e) = absurd (err_is_not_ok (sym e ∙ accepted))
     path_carried i (path.few_arcs ok l) = path.few_arcs good_too (rw nodes l)
     path_carried i (path.no_such ok k l) = path.no_such good_too (rw nodes k) (rw nodes l)
     path_carried i (path.unentered a h) = path.unentered (asked i a) (unentered_same (flow late c) (flow late d) (alike.flows late) i h)
@@ -117,7 +119,7 @@ module _ (p : ℕ) (first second : List ℕ) where
   phases_exchanged numbers arcs text i = record {
     back = exchanged_back p first second;
     valid = λ x. (exchanged_valid p first second x, exchanged_valid p second first (exchanged_back p first second x));
-    checked = λ x v. good_too p first second x v ∙ ap Good (exchanged_image p first second x) ∙ sym (accepted p first second x v);
+    checked = λ x v. good_too p first second x v ∙ ap Ok (exchanged_image p first second x) ∙ sym (accepted p first second x v);
     refused = λ x e. exchanged_refused p first second x e;
     timing = either_way _ (λ a b x v. timing_carried p a b x v numbers arcs);
     path = either_way _ (λ a b x v. path_carried p a b x v numbers arcs i);

@@ -2,9 +2,11 @@
 use mathlib.Core.Path.{◌≡◌, refl, sym, ap, ◌∙◌}
 use mathlib.Core.List.{List, [], ◌∷◌, ◌++◌}
 use mathlib.Core.Logic.{inl, inr}
+use Rattle.std.specs.Prelude.{Result, Ok}
 use Prim.Native.Nat.{ℕ, ◌<◌}
 use lib.IntN.{ℤ, ◌+ℤ◌}
 use lib.ListN.{length, drop}
+use Rattle.image.specs.declared.refusal.Refusal.{Refusal}
 use Rattle.flow.specs.Flow.{late, Least}
 use Rattle.flow.specs.Walk.{Walk}
 use Rattle.flow.specs.Path.{PathTo}
@@ -17,7 +19,6 @@ use Rattle.circuit.proofs.Sound.{Sound, good}
 use Rattle.circuit.proofs.Unique.{departure_same, arrival_same}
 use Rattle.timing.specs.TimingPromise.{Served, Timing}
 use Rattle.timing.specs.PathPromise.{Asked, PathCall, found}
-use Rattle.timing.specs.declared.path_call.Way.TheVariants.{Found}
 use Rattle.timing.specs.declared.timing_call.Answer.{Answer}
 use Rattle.demands.specs.Buffers.{IsTimed, late_departure_at, late_arrival_at, Defined}
 use Rattle.demands.specs.Rings.{Leads, adds, Explained}
@@ -43,7 +44,7 @@ module _ (bytes : List ℕ) (i : ℕ) (arcs : List ℕ) where
     counted : n ≡ length path
     written : B ≡ path ++ drop (length path) arcs
 
-  is_found : {s n : ℕ} {B : List ℕ} → PathCall bytes i arcs (Found s n) B → IsFound s n B
+  is_found : {s n : ℕ} {B : List ℕ} → PathCall bytes i arcs (Ok (record { launch = s; count = n })) B → IsFound s n B
   is_found (found D s p asked least path) =
       record { latest = D; path = p; asked = asked; least = least; leads = path; counted = refl; written = refl }
 
@@ -63,7 +64,7 @@ module _ (c : Circuit) (v : Sound c) (D : ℕ → ℤ) (least : Least late (flow
 
 module _ (bytes : List ℕ) (numbers : List ℤ) (arcs arcs' : List ℕ) (i : ℕ) where
   -- timing, served, times; and the path explains the late arrival that it writes
-  pub path_explains : {X : Answer} {R : List ℤ} {A B : List ℕ} {s n : ℕ} → PathCall bytes i arcs' (Found s n) B → Served bytes numbers arcs →
+  pub path_explains : {X : Result Answer Refusal} {R : List ℤ} {A B : List ℕ} {s n : ℕ} → PathCall bytes i arcs' (Ok (record { launch = s; count = n })) B → Served bytes numbers arcs →
       Timing bytes numbers arcs X R A → IsTimed X × Explained (circuit_of bytes) i s n arcs' B R
   path_explains {B} {s} {n} y served x =
       let c = circuit_of bytes in

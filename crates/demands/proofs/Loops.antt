@@ -2,8 +2,10 @@
 use mathlib.Core.Path.{◌≡◌, sym}
 use mathlib.Core.List.{List, [], ◌∷◌}
 use mathlib.Core.Logic.{inl, inr, ◌↔◌}
+use Rattle.std.specs.Prelude.{Result, Ok}
 use Prim.Native.Nat.{ℕ}
 use lib.IntN.{ℤ}
+use Rattle.image.specs.declared.refusal.Refusal.{Refusal}
 use Rattle.flow.specs.Flow.{late}
 use Rattle.flow.specs.Walk.{Walk, Shown}
 use Rattle.flow.proofs.Walks.{fits_calm, ring_latches}
@@ -41,7 +43,7 @@ shown_ring c {n} {g} {arcs} {A} s =
     }
 
 module _ (bytes : List ℕ) (numbers : List ℤ) (arcs : List ℕ) where
-  pub loop_exactly : {X : Answer} {R : List ℤ} {A : List ℕ} → Served bytes numbers arcs → Timing bytes numbers arcs X R A →
+  pub loop_exactly : {X : Result Answer Refusal} {R : List ℤ} {A : List ℕ} → Served bytes numbers arcs → Timing bytes numbers arcs X R A →
       IsLoop X ↔ times.Growing (circuit_of bytes)
   loop_exactly s x =
       let c = circuit_of bytes in (
@@ -52,6 +54,6 @@ module _ (bytes : List ℕ) (numbers : List ℤ) (arcs : List ℕ) where
         ],
       )
 
-  pub loop_ring : {n : ℕ} {g : ℤ} {R : List ℤ} {A : List ℕ} → Timing bytes numbers arcs (Growing n g) R A →
+  pub loop_ring : {n : ℕ} {g : ℤ} {R : List ℤ} {A : List ℕ} → Timing bytes numbers arcs (Ok (Growing n g)) R A →
       RealRing (circuit_of bytes) n g arcs A × (R ≡ numbers)
   loop_ring x = let h = loop_shown bytes numbers arcs x in (shown_ring (circuit_of bytes) h.0, h.1)

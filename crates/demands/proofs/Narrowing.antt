@@ -3,6 +3,7 @@ use mathlib.Core.Path.{◌≡◌, refl}
 use mathlib.Core.Bool.{Bool, true, false, cond}
 use mathlib.Core.List.{List}
 use mathlib.Core.Logic.{◌⊎◌, inl, inr}
+use Rattle.std.specs.Prelude.{Result, Ok}
 use Prim.Native.Nat.{ℕ, zero, suc, ◌≤◌, ◌<◌}
 use native.Mathlib.Omega.{arith}
 use lib.IntN.{ℤ, pos}
@@ -19,6 +20,7 @@ use Rattle.circuit.proofs.Sound.{Sound, good}
 use Rattle.circuit.proofs.RulesInWords.{met_exactly}
 use Rattle.circuit.proofs.Narrowing.{narrows_calm, narrowed}
 use Rattle.timing.specs.TimingPromise.{Served, Timing}
+use Rattle.image.specs.declared.refusal.Refusal.{Refusal}
 use Rattle.timing.specs.declared.timing_call.Answer.{Answer}
 use Rattle.timing.specs.declared.timing_call.Answer.TheVariants.{Timed}
 use Rattle.demands.specs.Buffers.{Defined, Marked, Contained, Narrower, Calmer}
@@ -85,8 +87,8 @@ module _ (c d : Circuit) (v : Sound c) (w : Sound d) (n : Narrows c d) {setups h
 
 module _ (first second : List ℕ) (numbers numbers' : List ℤ) (arcs arcs' : List ℕ) where
   -- the first call timed; the second is served, and its image only narrows the first's
-  pub narrowed_call : {X : Answer} {R S : List ℤ} {A B : List ℕ} {setups holds : ℕ} →
-      Timing first numbers arcs (Timed setups holds) R A → Served second numbers' arcs' → Narrows (circuit_of first) (circuit_of second) →
+  pub narrowed_call : {X : Result Answer Refusal} {R S : List ℤ} {A B : List ℕ} {setups holds : ℕ} →
+      Timing first numbers arcs (Ok (Timed setups holds)) R A → Served second numbers' arcs' → Narrows (circuit_of first) (circuit_of second) →
       Timing second numbers' arcs' X S B → Calmer (circuit_of first).synchronizers setups holds R X S
   narrowed_call x s n y =
       let c = circuit_of first in

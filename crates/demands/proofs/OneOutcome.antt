@@ -2,9 +2,11 @@
 use mathlib.Core.Path.{◌≡◌, sym, ◌∙◌}
 use mathlib.Core.List.{List, ◌++◌}
 use mathlib.Core.Logic.{inl, inr}
+use Rattle.std.specs.Prelude.{Result, Ok}
 use Prim.Native.Nat.{ℕ}
 use lib.IntN.{ℤ}
 use lib.ListN.{take}
+use Rattle.image.specs.declared.refusal.Refusal.{Refusal}
 use Rattle.flow.specs.Flow.{Flow, late}
 use Rattle.flow.specs.Walk.{Shown}
 use Rattle.circuit.specs.Circuit.{circuit_of}
@@ -35,17 +37,17 @@ module _ (f : Flow) {m n : ℕ} {g h : ℤ} {before A B : List ℕ} (s : Shown f
       x ∙ one_reading f r.front r.back a.start b.start (rw x at a.closed) (rw y at b.closed)
       (rw x at s.lowest) (rw y at t.lowest) (rw x at a.distinct) ∙ sym y
 
-  same_shown : one ≡ other → (Growing m g ≡ Growing n h) × (A ≡ B)
+  same_shown : one ≡ other → (◌≡◌ {A = Result Answer Refusal} (Ok (Growing m g)) (Ok (Growing n h))) × (A ≡ B)
   same_shown e = (
     rw (s.counted, s.gains, t.counted, t.gains, e),
     s.written ∙ rw e (sym t.written),
   )
 
-  pub one_shown : Rotated (take m A) (take n B) → (Growing m g ≡ Growing n h) × (A ≡ B)
+  pub one_shown : Rotated (take m A) (take n B) → (◌≡◌ {A = Result Answer Refusal} (Ok (Growing m g)) (Ok (Growing n h))) × (A ≡ B)
   one_shown r = same_shown (shown_path r)
 
 module _ (bytes : List ℕ) (numbers : List ℤ) (arcs : List ℕ) where
-  pub timing_one : {X Y : Answer} {R S : List ℤ} {A B : List ℕ} → Timing bytes numbers arcs X R A → Timing bytes numbers arcs Y S B →
+  pub timing_one : {X Y : Result Answer Refusal} {R S : List ℤ} {A B : List ℕ} → Timing bytes numbers arcs X R A → Timing bytes numbers arcs Y S B →
       OneRing X A Y B → (X ≡ Y) × (R ≡ S) × (A ≡ B)
   timing_one x y one = elim (timing_only bytes numbers arcs x y) [
     | inl s ↦ (s.answer, s.numbers, s.arcs)

@@ -2,6 +2,7 @@
 use mathlib.Core.Path.{◌≡◌, refl}
 use mathlib.Core.List.{List, ◌++◌}
 use mathlib.Core.Logic.{inl, inr}
+use Rattle.std.specs.Prelude.{Result, Ok, Err}
 use Prim.Native.Nat.{ℕ, ◌*◌}
 use native.Mathlib.Omega.{arith}
 use native.Mathlib.Decide.{dec_lt}
@@ -9,8 +10,10 @@ use lib.IntN.{ℤ}
 use lib.ListN.{length, drop}
 use Rattle.image.specs.Checks.{check_of}
 use Rattle.image.specs.Valid.{image_in}
-use Rattle.image.specs.declared.checks.Checked.{Checked}
-use Rattle.image.specs.declared.checks.Checked.TheVariants as check
+use Rattle.image.specs.Refusal.{refusal}
+use Rattle.image.specs.declared.header.Image.{Image}
+use Rattle.image.specs.declared.refusal.Rule.TheVariants as by
+use Rattle.image.specs.declared.refusal.Refusal.{Refusal}
 use Rattle.image.proofs.Validity.{accepted_is}
 use Rattle.flow.specs.Flow.{Flow, late, early}
 use Rattle.flow.specs.Walk.{gain, GrowingRing, Shown}
@@ -19,7 +22,7 @@ use Rattle.circuit.specs.Clock.{flow}
 use Rattle.circuit.proofs.Solved.{decided, worked, worked_times}
 use Rattle.timing.specs.TimingPromise.{Served, Timing, refused, few_numbers, few_arcs, growing, timed}
 use Rattle.timing.specs.declared.timing_call.Answer.{Answer}
-use Rattle.timing.specs.declared.timing_call.Answer.TheVariants.{Refused, Growing}
+use Rattle.timing.specs.declared.timing_call.Answer.TheVariants.{Growing}
 use Rattle.report.specs.Promise.{zeros, no_arcs, report_of, Report}
 use Rattle.demands.proofs.ByAnswer.{served_sound}
 use Rattle.demands.proofs.Turning.{told}
@@ -33,7 +36,7 @@ shown f before ring =
 
 module _ (bytes : List ℕ) (numbers : List ℤ) (arcs : List ℕ) where
   abbrev SomeTiming : Type 0
-  SomeTiming = (X : Answer) × (R : List ℤ) × (A : List ℕ) × Timing bytes numbers arcs X R A
+  SomeTiming = (X : Result Answer Refusal) × (R : List ℤ) × (A : List ℕ) × Timing bytes numbers arcs X R A
 
   serving : Served bytes numbers arcs → SomeTiming
   serving s =
@@ -41,14 +44,14 @@ module _ (bytes : List ℕ) (numbers : List ℤ) (arcs : List ℕ) where
       let v = served_sound bytes numbers arcs s in
       elim (decided c v) [
         | inl calm ↦ (_, _, arcs, timed (worked c v early) (worked c v late) s (worked_times c v calm))
-        | inr ring ↦ (let h = shown (flow late c) arcs ring in (Growing h.0 h.1, numbers, h.2, growing s h.3))
+        | inr ring ↦ (let h = shown (flow late c) arcs ring in (Ok (Growing h.0 h.1), numbers, h.2, growing s h.3))
       ]
 
-  accepting : check_of bytes ≡ check.Good (image_in bytes) → SomeTiming
+  accepting : check_of bytes ≡ Ok (image_in bytes) → SomeTiming
   accepting ok = elim (dec_lt (length numbers) (6 * (circuit_of bytes).synchronizers)) [
-    | yes l ↦ (Refused 10 0, numbers, arcs, few_numbers ok l)
+    | yes l ↦ (Err (refusal by.ResultBuffer 0), numbers, arcs, few_numbers ok l)
     | no l ↦ elim (dec_lt (length arcs) (circuit_of bytes).synchronizers) [
-      | yes k ↦ (Refused 11 0, numbers, arcs, few_arcs ok (omega arith) k)
+      | yes k ↦ (Err (refusal by.ArcBuffer 0), numbers, arcs, few_arcs ok (omega arith) k)
       | no k ↦ serving (record { good = ok; numbers_fit = omega arith; arcs_fit = omega arith })
     ]
   ]
@@ -56,9 +59,9 @@ module _ (bytes : List ℕ) (numbers : List ℤ) (arcs : List ℕ) where
   pub timing_some : SomeTiming
   timing_some = go (check_of bytes) refl
     where
-      go : (c : Checked) → check_of bytes ≡ c → SomeTiming
-      go (check.Refused rule culprit) e = (Refused rule culprit, numbers, arcs, refused e)
-      go (check.Good image) e = accepting (rw (accepted_is bytes image e) at e)
+      go : (c : Result Image Refusal) → check_of bytes ≡ c → SomeTiming
+      go (Err why) e = (Err why, numbers, arcs, refused e)
+      go (Ok image) e = accepting (rw (accepted_is bytes image e) at e)
 
 pub report_some : (bytes before : List ℕ) → (size : ℕ) × (after : List ℕ) × Report bytes before size after
 report_some bytes before =

@@ -3,22 +3,24 @@ use mathlib.Core.Path.{◌≡◌, refl, sym, ap, subst, ◌∙◌}
 use mathlib.Core.Bool.{Bool, true, false}
 use mathlib.Core.List.{List, [], ◌∷◌, ◌++◌}
 use mathlib.Core.Logic.{◌⊎◌, inl, inr, ◌↔◌}
+use Rattle.std.specs.Prelude.{Result, Ok, Err}
 use Prim.Native.Nat.{ℕ, ◌<◌, ◌≤◌}
 use native.Mathlib.Omega.{arith}
 use lib.Dec.{ltb}
-use lib.ListN.{length, take, drop}
+use lib.ListN.{length, drop}
 use lib.Seq.{take_at}
 use Rattle.image.specs.Checks.{refuse, refuse_at, records_of, check_of}
 use Rattle.image.specs.Header.{image_of}
 use Rattle.image.specs.Rules.{bad_cycle, bad_counts, breaks_of, lowest_of}
-use Rattle.image.specs.declared.rules.Rule.{Rule}
-use Rattle.image.specs.declared.rules.Rule.TheVariants.{Phases, Synchronizers, Arcs, Order}
 use Rattle.image.specs.Valid.{Valid}
 use Rattle.image.specs.declared.header.Header.{Header}
 use Rattle.image.specs.declared.header.Image.{Image}
-use Rattle.image.specs.declared.checks.Checked.{Checked}
-use Rattle.image.specs.declared.checks.Checked.TheVariants as check
+use Rattle.image.specs.Refusal.{number_of, refusal}
+use Rattle.image.specs.declared.refusal.Rule.{Rule}
+use Rattle.image.specs.declared.refusal.Rule.TheVariants as by
+use Rattle.image.specs.declared.refusal.Refusal.{Refusal}
 use Rattle.image.proofs.Validity.{accepts, accepted_is}
+use Rattle.image.proofs.Alike.{err_is_not_ok}
 use Rattle.grammar.specs.Text.{longest_text, Reads, Fault}
 use Rattle.grammar.specs.Layout.{image_from}
 use Rattle.grammar.specs.declared.read.Line.{Line}
@@ -28,8 +30,6 @@ use Rattle.grammar.proofs.HeaderLaid.{header_for, header_laid, check_laid}
 use Rattle.grammar.proofs.RecordsLaid.{phase_laid, synchronizer_laid, arc_laid}
 use Rattle.circuit.specs.Circuit.{circuit_of}
 use Rattle.text.specs.TextPromise.{TextCall, faulty, refused, short, made}
-use Rattle.text.specs.declared.text_call.Made.{Made}
-use Rattle.text.specs.declared.text_call.Made.TheVariants as answer
 use Rattle.text.proofs.OneOutcome.{text_one}
 use Rattle.interface.specs.Answers.{text_answer}
 use Rattle.interface.proofs.ExactlyText.{fault_is}
@@ -37,7 +37,7 @@ use Rattle.text.proofs.SomeOutcome.{Read, reads, fails, read_some, text_some}
 use Rattle.demands.specs.Requests.{Among, Carries, Wrote, TextToImage}
 
 -- an image is good where it is valid
-good : (bytes : List ℕ) {image : Image} → check_of bytes ≡ check.Good image → Valid bytes
+good : (bytes : List ℕ) {image : Image} → check_of bytes ≡ Ok image → Valid bytes
 good bytes {image} e = (accepts bytes).1 (rw (accepted_is bytes image e) at e)
 
 -- ---- the image carries the lines
@@ -63,41 +63,41 @@ module _ {text : List ℕ} {lines : List Line} (r : Reads text lines) where
       }
 
 -- ---- by which rules an image that lines were written to is refused
-module _ {rule culprit : ℕ} where
+module _ {why : Refusal} where
   -- a rule that is asked refuses, or those after it do
-  asked : {P : Type 0} (b : Bool) (n c : ℕ) (rest : Checked) → refuse b n c rest ≡ check.Refused rule culprit →
-      (rest ≡ check.Refused rule culprit → P) → (rule ≡ n) ⊎ P
-  asked true n c rest e after = inl (cc)
+  asked : {P : Type 0} (b : Bool) (n : Rule) (c : ℕ) (rest : Result Image Refusal) → refuse b n c rest ≡ Err why →
+      (rest ≡ Err why → P) → (number_of why.rule ≡ number_of n) ⊎ P
+  asked true n c rest e after = let same : why ≡ refusal n c = cc in inl (ap (λ (x : Refusal). number_of x.rule) same)
   asked false n c rest e after = inr (after e)
 
-  among_records : (bytes : List ℕ) (image : Image) → records_of bytes image ≡ check.Refused rule culprit → Among rule (6 ∷ 7 ∷ 8 ∷ 9 ∷ 16 ∷ [])
+  among_records : (bytes : List ℕ) (image : Image) → records_of bytes image ≡ Err why → Among (number_of why.rule) (6 ∷ 7 ∷ 8 ∷ 9 ∷ 16 ∷ [])
   unfolding records_of
-  among_records bytes image e = table Phases image.phases 6 _ e λ e. table Synchronizers image.synchronizers 7 _ e
-      λ e. table Arcs image.arcs 8 _ e λ e. table Order image.arcs 9 (check.Good image) e
-      λ e. let z : ◌≡◌ {A = ℕ} 0 1 = cc in let no : ⊥ = omega (arith, z) in absurd no
+  among_records bytes image e = table by.Phases image.phases _ e λ e. table by.Synchronizers image.synchronizers _ e
+      λ e. table by.Arcs image.arcs _ e λ e. table by.Order image.arcs (Ok image) e
+      λ e. absurd (err_is_not_ok (sym e))
     where
-      table : {P : Type 0} (r : Rule) (n number : ℕ) (rest : Checked) → refuse_at (breaks_of bytes image r) n number rest ≡ check.Refused rule culprit →
-          (rest ≡ check.Refused rule culprit → P) → (rule ≡ number) ⊎ P
-      table r n number rest = asked (ltb (lowest_of (breaks_of bytes image r) n) n) number (lowest_of (breaks_of bytes image r) n) rest
+      table : {P : Type 0} (rule : Rule) (n : ℕ) (rest : Result Image Refusal) → refuse_at (breaks_of bytes image rule) n rule rest ≡ Err why →
+          (rest ≡ Err why → P) → (number_of why.rule ≡ number_of rule) ⊎ P
+      table rule n rest = asked (ltb (lowest_of (breaks_of bytes image rule) n) n) rule (lowest_of (breaks_of bytes image rule) n) rest
 
-  among : {text : List ℕ} {lines : List Line} → Reads text lines → check_of (image_from lines) ≡ check.Refused rule culprit →
-      Among rule (3 ∷ 4 ∷ 6 ∷ 7 ∷ 8 ∷ 9 ∷ 16 ∷ [])
+  among : {text : List ℕ} {lines : List Line} → Reads text lines → check_of (image_from lines) ≡ Err why →
+      Among (number_of why.rule) (3 ∷ 4 ∷ 6 ∷ 7 ∷ 8 ∷ 9 ∷ 16 ∷ [])
   among {lines = lines} r e =
       let header = header_for lines in
       let records = records_of (image_from lines) (image_of header) in
-      asked (bad_cycle header) 3 0 (refuse (bad_counts header) 4 0 records) (sym (check_laid lines (small r) (few r)) ∙ e)
-      λ e. asked (bad_counts header) 4 0 records e (among_records (image_from lines) (image_of header))
+      asked (bad_cycle header) by.Cycle 0 (refuse (bad_counts header) by.Counts 0 records) (sym (check_laid lines (small r) (few r)) ∙ e)
+      λ e. asked (bad_counts header) by.Counts 0 records e (among_records (image_from lines) (image_of header))
 
 module _ (text before : List ℕ) where
-  numbers : {rule culprit : ℕ} {after : List ℕ} → TextCall text before (answer.Refused rule culprit) after →
-      Among rule (15 ∷ 3 ∷ 4 ∷ 6 ∷ 7 ∷ 8 ∷ 9 ∷ 16 ∷ [])
+  numbers : {why : Refusal} {after : List ℕ} → TextCall text before (Err why) after →
+      Among (number_of why.rule) (15 ∷ 3 ∷ 4 ∷ 6 ∷ 7 ∷ 8 ∷ 9 ∷ 16 ∷ [])
   numbers (faulty f) = inl refl
   numbers (refused r e) = inr (among r e)
   numbers (short r e l) = inr (inr (inr (inr (inr (inr (inr (inl refl)))))))
 
-  fault_told : {X : Made} {after : List ℕ} → TextCall text before X after → (n : ℕ) → (X ≡ answer.Refused 15 n) ↔ Fault text n
+  fault_told : {X : Result ℕ Refusal} {after : List ℕ} → TextCall text before X after → (n : ℕ) → (X ≡ Err (refusal by.Text n)) ↔ Fault text n
   fault_told c n = (
-    λ e. (fault_is c).0 (ap (λ (m : Made). (text_answer m).refusal) e, ap (λ (m : Made). (text_answer m).«record») e),
+    λ e. (fault_is c).0 (ap (λ (m : Result ℕ Refusal). (text_answer m).refusal) e, ap (λ (m : Result ℕ Refusal). (text_answer m).«record») e),
     λ f. (text_one c (faulty f)).0,
   )
 
@@ -107,35 +107,35 @@ module _ (text before : List ℕ) where
     go none (reads {lines} r) = absurd (none lines r)
     go none (fails {n} f) = (n, f)
 
-  keeps : {rule culprit : ℕ} {after : List ℕ} → TextCall text before (answer.Refused rule culprit) after → after ≡ before
+  keeps : {why : Refusal} {after : List ℕ} → TextCall text before (Err why) after → after ≡ before
   keeps (faulty f) = refl
   keeps (refused r e) = refl
   keeps (short r e l) = refl
 
   -- what a refusal of a text that has a reading says
-  module _ {lines : List Line} (r : Reads text lines) (rule culprit : ℕ) where
+  module _ {lines : List Line} (r : Reads text lines) (given : Refusal) where
     abbrev Why : Type 0
     Why =
-        (check_of (image_from lines) ≡ check.Refused rule culprit) ⊎
-        ((rule ≡ 16) × (culprit ≡ 0) × Valid (image_from lines) × (length before < length (image_from lines)))
+        (check_of (image_from lines) ≡ Err given) ⊎
+        ((given ≡ refusal by.ImageBuffer 0) × Valid (image_from lines) × (length before < length (image_from lines)))
 
-    why : {X : Made} {after : List ℕ} → TextCall text before X after → X ≡ answer.Refused rule culprit → Why
+    why : {X : Result ℕ Refusal} {after : List ℕ} → TextCall text before X after → X ≡ Err given → Why
     why (faulty f) e = absurd (reads_not_fault r f)
     why (refused {lines = xs} s p) e =
         let same : check_of (image_from lines) ≡ check_of (image_from xs) = ap (λ (l : List Line). check_of (image_from l)) (reads_one r s) in
         inl (same ∙ p ∙ cc)
     why (short {lines = xs} s p l) e =
         let same : image_from xs ≡ image_from lines = ap image_from (reads_one s r) in
-        inr (cc, cc, subst Valid same (good (image_from xs) p), subst (λ (i : List ℕ). length before < length i) same l)
-    why (made s p l) e = let z : ◌≡◌ {A = ℕ} 0 1 = cc in let no : ⊥ = omega (arith, z) in absurd no
+        inr (cc, subst Valid same (good (image_from xs) p), subst (λ (i : List ℕ). length before < length i) same l)
+    why (made s p l) e = absurd (err_is_not_ok (sym e))
 
-    told : {X : Made} {after : List ℕ} → TextCall text before X after → (X ≡ answer.Refused rule culprit) ↔ Why
+    told : {X : Result ℕ Refusal} {after : List ℕ} → TextCall text before X after → (X ≡ Err given) ↔ Why
     told {X} c = (why c, λ w. back w) where
-      back : Why → X ≡ answer.Refused rule culprit
+      back : Why → X ≡ Err given
       back (inl e) = (text_one c (refused r e)).0
-      back (inr w) = (text_one c (short r ((accepts (image_from lines)).0 w.2) w.3)).0 ∙ cc
+      back (inr w) = (text_one c (short r ((accepts (image_from lines)).0 w.1) w.2)).0 ∙ ap Err (sym w.0)
 
-  wrote : {n : ℕ} {after : List ℕ} → TextCall text before (answer.Image n) after → Wrote text before n after
+  wrote : {n : ℕ} {after : List ℕ} → TextCall text before (Ok n) after → Wrote text before n after
   wrote (made {lines} r p l) =
       let image = image_from lines in
       let front = take_at image (drop (length image) before) (length image) refl in
@@ -158,7 +158,7 @@ module _ (text before : List ℕ) where
     one_meaning = window_one;
     faulty = fault_told;
     no_reading = unread;
-    refused = λ r c rule culprit. told r rule culprit c;
+    refused = λ r c given. told r given c;
     numbers = numbers;
     keeps = keeps;
     wrote = wrote;

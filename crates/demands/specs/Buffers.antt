@@ -1,5 +1,6 @@
 -- What the demands read in the buffers that a call leaves.
-use Rattle.std.specs.Prelude.{◌≡◌, List, ◌⊎◌, ℕ, ◌+◌, ◌*◌, ◌≤◌, ◌<◌, ℤ, pos, get_or, drop, ◌≤ℤ◌}
+use Rattle.std.specs.Prelude.{◌≡◌, List, ◌⊎◌, ℕ, ◌+◌, ◌*◌, ◌≤◌, ◌<◌, ℤ, pos, get_or, drop, ◌≤ℤ◌, Result, Ok}
+use Rattle.image.specs.declared.refusal.Refusal.{Refusal}
 use Rattle.flow.specs.Flow.{late, early}
 use Rattle.circuit.specs.Circuit.{Circuit}
 use Rattle.circuit.specs.Times as times
@@ -8,11 +9,11 @@ use Rattle.timing.specs.declared.timing_call.Answer.{Answer}
 use Rattle.timing.specs.declared.timing_call.Answer.TheVariants.{Growing, Timed}
 
 -- the answer of a call that times, and of one that shows a growing loop
-abbrev pub IsTimed : Answer → Type 0
-IsTimed X = (setups : ℕ) × (holds : ℕ) × (X ≡ Timed setups holds)
+abbrev pub IsTimed : Result Answer Refusal → Type 0
+IsTimed X = (setups : ℕ) × (holds : ℕ) × (X ≡ Ok (Timed setups holds))
 
-abbrev pub IsLoop : Answer → Type 0
-IsLoop X = (n : ℕ) × (g : ℤ) × (X ≡ Growing n g)
+abbrev pub IsLoop : Result Answer Refusal → Type 0
+IsLoop X = (n : ℕ) × (g : ℤ) × (X ≡ Ok (Growing n g))
 
 -- number k of the six numbers of synchronizer i, in the result buffer
 abbrev pub number : List ℤ → ℕ → ℕ → ℤ
@@ -71,10 +72,10 @@ pub record Narrower (R S : List ℤ) (i : ℕ) : Type 0 where
   pub setup : pos 0 ≤ℤ setup_slack_at R i → pos 0 ≤ℤ setup_slack_at S i
 
 -- the second call times too: no synchronizer's times leave their window, no check that was met is missed, and neither count rises
-pub record Calmer (l setups holds : ℕ) (R : List ℤ) (X : Answer) (S : List ℤ) : Type 0 where
+pub record Calmer (l setups holds : ℕ) (R : List ℤ) (X : Result Answer Refusal) (S : List ℤ) : Type 0 where
   pub setups' : ℕ
   pub holds' : ℕ
-  pub timed : X ≡ Timed setups' holds'
+  pub timed : X ≡ Ok (Timed setups' holds')
   pub fewer_setups : setups' ≤ setups
   pub fewer_holds : holds' ≤ holds
   pub each : (i : ℕ) → i < l → Narrower R S i

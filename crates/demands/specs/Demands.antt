@@ -2,16 +2,16 @@
 -- and the buffers as a call leaves them. `Timing bytes numbers arcs X R A` is the promise of timing: lent numbers and arcs, it may answer X and
 -- leave R and A in their place. `PathCall` is that of the path question, `Report` that of the report. The calls are proved to keep them, in the
 -- crates timing and report, so what is said here of a promise holds of every call.
-use Rattle.std.specs.Prelude.{◌≡◌, List, ◌↔◌, ℕ, ℤ}
+use Rattle.std.specs.Prelude.{◌≡◌, List, ◌↔◌, ℕ, ℤ, Result, Ok, Err}
+use Rattle.image.specs.declared.refusal.Refusal.{Refusal}
 use Rattle.circuit.specs.Circuit.{circuit_of}
 use Rattle.circuit.specs.Times.{Growing as NoneFit}
 use Rattle.circuit.specs.Narrows.{Narrows}
 use Rattle.timing.specs.TimingPromise.{Served, Timing}
 use Rattle.timing.specs.PathPromise.{PathCall}
 use Rattle.timing.specs.declared.timing_call.Answer.{Answer}
-use Rattle.timing.specs.declared.timing_call.Answer.TheVariants.{Refused, Growing, Timed}
-use Rattle.timing.specs.declared.path_call.Way.{Way}
-use Rattle.timing.specs.declared.path_call.Way.TheVariants as way
+use Rattle.timing.specs.declared.timing_call.Answer.TheVariants.{Growing, Timed}
+use Rattle.timing.specs.declared.trail.Path.{Path}
 use Rattle.report.specs.Promise.{Report}
 use Rattle.demands.specs.Buffers.{IsTimed, IsLoop, Defined, Calmer}
 use Rattle.demands.specs.Rings.{RealRing, Explained, OneRing}
@@ -21,42 +21,42 @@ use Rattle.demands.specs.Rules.{TimingRule, PathRule}
 -- at all
 pub record Demand1 (bytes : List ℕ) (numbers : List ℤ) (arcs text : List ℕ) (i : ℕ) : Type 0 where
   -- every input gets a response
-  pub timing_some : (X : Answer) × (R : List ℤ) × (A : List ℕ) × Timing bytes numbers arcs X R A
-  pub path_some : (X : Way) × (A : List ℕ) × PathCall bytes i arcs X A
+  pub timing_some : (X : Result Answer Refusal) × (R : List ℤ) × (A : List ℕ) × Timing bytes numbers arcs X R A
+  pub path_some : (X : Result Path Refusal) × (A : List ℕ) × PathCall bytes i arcs X A
   pub report_some : (size : ℕ) × (after : List ℕ) × Report bytes text size after
   -- and only one, with all that is left in the buffers. The one freedom is which growing ring is shown; where that is the same, all is
-  pub timing_one : {X Y : Answer} {R S : List ℤ} {A B : List ℕ} → Timing bytes numbers arcs X R A → Timing bytes numbers arcs Y S B →
+  pub timing_one : {X Y : Result Answer Refusal} {R S : List ℤ} {A B : List ℕ} → Timing bytes numbers arcs X R A → Timing bytes numbers arcs Y S B →
       OneRing X A Y B → (X ≡ Y) × (R ≡ S) × (A ≡ B)
-  pub path_one : {X Y : Way} {A B : List ℕ} → PathCall bytes i arcs X A → PathCall bytes i arcs Y B → (X ≡ Y) × (A ≡ B)
+  pub path_one : {X Y : Result Path Refusal} {A B : List ℕ} → PathCall bytes i arcs X A → PathCall bytes i arcs Y B → (X ≡ Y) × (A ≡ B)
   pub report_one : {m n : ℕ} {x y : List ℕ} (p : Report bytes text m x) (q : Report bytes text n y) →
       OneRing p.answer p.arcs q.answer q.arcs → (m ≡ n) × (x ≡ y)
   -- bad input is refused by the numbered rule, exactly where the rule applies
-  pub timing_refuses : {X : Answer} {R : List ℤ} {A : List ℕ} → Timing bytes numbers arcs X R A →
-      (rule culprit : ℕ) → (X ≡ Refused rule culprit) ↔ TimingRule bytes numbers arcs rule culprit
-  pub path_refuses : {X : Way} {A : List ℕ} → PathCall bytes i arcs X A →
-      (rule culprit : ℕ) → (X ≡ way.Refused rule culprit) ↔ PathRule bytes i arcs rule culprit
+  pub timing_refuses : {X : Result Answer Refusal} {R : List ℤ} {A : List ℕ} → Timing bytes numbers arcs X R A →
+      (why : Refusal) → (X ≡ Err why) ↔ TimingRule bytes numbers arcs why
+  pub path_refuses : {X : Result Path Refusal} {A : List ℕ} → PathCall bytes i arcs X A →
+      (why : Refusal) → (X ≡ Err why) ↔ PathRule bytes i arcs why
   -- a refusal changes nothing that the caller lent
-  pub timing_keeps : {rule culprit : ℕ} {R : List ℤ} {A : List ℕ} → Timing bytes numbers arcs (Refused rule culprit) R A → (R ≡ numbers) × (A ≡ arcs)
-  pub path_keeps : {rule culprit : ℕ} {A : List ℕ} → PathCall bytes i arcs (way.Refused rule culprit) A → A ≡ arcs
+  pub timing_keeps : {why : Refusal} {R : List ℤ} {A : List ℕ} → Timing bytes numbers arcs (Err why) R A → (R ≡ numbers) × (A ≡ arcs)
+  pub path_keeps : {why : Refusal} {A : List ℕ} → PathCall bytes i arcs (Err why) A → A ≡ arcs
 
 pub record Demand2 (bytes : List ℕ) (numbers : List ℤ) (arcs : List ℕ) : Type 0 where
   -- every time, slack and missed count equals what the report's equations define, at their least whole-number solution
-  pub defined : {setups holds : ℕ} {R : List ℤ} {A : List ℕ} → Timing bytes numbers arcs (Timed setups holds) R A →
+  pub defined : {setups holds : ℕ} {R : List ℤ} {A : List ℕ} → Timing bytes numbers arcs (Ok (Timed setups holds)) R A →
       Defined (circuit_of bytes) setups holds numbers R × (A ≡ arcs)
   -- a path shown really gives the late arrival that it explains: the one that timing, lent enough, writes for the same image
-  pub explained : {i s n : ℕ} {lent B : List ℕ} {X : Answer} {R : List ℤ} {A : List ℕ} → PathCall bytes i lent (way.Found s n) B →
+  pub explained : {i s n : ℕ} {lent B : List ℕ} {X : Result Answer Refusal} {R : List ℤ} {A : List ℕ} → PathCall bytes i lent (Ok (record { launch = s; count = n })) B →
       Served bytes numbers arcs → Timing bytes numbers arcs X R A → IsTimed X × Explained (circuit_of bytes) i s n lent B R
   -- "growing loop" is said exactly when no late departures fit with the setup limits put aside
-  pub loop_exactly : {X : Answer} {R : List ℤ} {A : List ℕ} → Served bytes numbers arcs → Timing bytes numbers arcs X R A →
+  pub loop_exactly : {X : Result Answer Refusal} {R : List ℤ} {A : List ℕ} → Served bytes numbers arcs → Timing bytes numbers arcs X R A →
       IsLoop X ↔ NoneFit (circuit_of bytes)
   -- and the loop shown is a real ring of latches whose gain is above zero
-  pub ring : {n : ℕ} {g : ℤ} {R : List ℤ} {A : List ℕ} → Timing bytes numbers arcs (Growing n g) R A →
+  pub ring : {n : ℕ} {g : ℤ} {R : List ℤ} {A : List ℕ} → Timing bytes numbers arcs (Ok (Growing n g)) R A →
       RealRing (circuit_of bytes) n g arcs A × (R ≡ numbers)
 
 -- Of two valid images with the same clock, phases and kinds, the first without a growing loop, the second only narrowing delay windows, lowering
 -- setup or hold times, or dropping arcs while each synchronizer that had arcs in keeps one
 pub record Demand3 (first second : List ℕ) (numbers lent : List ℤ) (arcs room : List ℕ) : Type 0 where
   -- the second has no growing loop, each of its times lies inside the first's window, and each check met stays met
-  pub calmer : {setups holds : ℕ} {R : List ℤ} {A : List ℕ} {X : Answer} {S : List ℤ} {B : List ℕ} →
-      Timing first numbers arcs (Timed setups holds) R A → Served second lent room → Narrows (circuit_of first) (circuit_of second) →
+  pub calmer : {setups holds : ℕ} {R : List ℤ} {A : List ℕ} {X : Result Answer Refusal} {S : List ℤ} {B : List ℕ} →
+      Timing first numbers arcs (Ok (Timed setups holds)) R A → Served second lent room → Narrows (circuit_of first) (circuit_of second) →
       Timing second lent room X S B → Calmer (circuit_of first).synchronizers setups holds R X S

@@ -3,14 +3,16 @@
 -- `TextCall text before X after` is the promise of the call that makes an image from a text: lent a buffer that holds `before`, it may answer X
 -- and leave `after` in it. The grammar is grammar's: `Reads text lines` says that the text is those lines, `Fault text n` that line n is the
 -- lowest at fault.
-use Rattle.std.specs.Prelude.{◌≡◌, List, [], ◌∷◌, ◌++◌, ◌⊎◌, ◌↔◌, ℕ, ◌<◌, ◌≤◌, ℤ, length, get_or, take, drop}
+use Rattle.std.specs.Prelude.{◌≡◌, List, [], ◌∷◌, ◌++◌, ◌⊎◌, ◌↔◌, ℕ, ◌<◌, ◌≤◌, ℤ, length, get_or, take, drop, Result, Ok, Err}
 use Rattle.image.specs.Checks.{check_of}
 use Rattle.image.specs.Valid.{Valid}
-use Rattle.image.specs.declared.header.Image.{Image}
 use Rattle.image.specs.declared.records.Phase.{Phase}
 use Rattle.image.specs.declared.records.Synchronizer.{Synchronizer}
 use Rattle.image.specs.declared.records.Arc.{Arc}
-use Rattle.image.specs.declared.checks.Checked.TheVariants as check
+use Rattle.image.specs.Refusal.{number_of, refusal}
+use Rattle.image.specs.declared.refusal.Rule.{Rule}
+use Rattle.image.specs.declared.refusal.Rule.TheVariants as by
+use Rattle.image.specs.declared.refusal.Refusal.{Refusal}
 use Rattle.grammar.specs.Windows.{Window, Written}
 use Rattle.grammar.specs.Text.{Reads, Fault}
 use Rattle.grammar.specs.Layout.{cycle_of, phases_of, synchronizers_of, arcs_of, image_from}
@@ -20,11 +22,9 @@ use Rattle.circuit.specs.Exchange.{Exchanged}
 use Rattle.timing.specs.TimingPromise.{Timing}
 use Rattle.timing.specs.PathPromise.{PathCall}
 use Rattle.timing.specs.declared.timing_call.Answer.{Answer}
-use Rattle.timing.specs.declared.path_call.Way.{Way}
+use Rattle.timing.specs.declared.trail.Path.{Path}
 use Rattle.report.specs.Promise.{Report}
 use Rattle.text.specs.TextPromise.{TextCall}
-use Rattle.text.specs.declared.text_call.Made.{Made}
-use Rattle.text.specs.declared.text_call.Made.TheVariants as answer
 
 -- one of those numbers
 abbrev pub Among : ℕ → List ℕ → Type 0
@@ -66,26 +66,26 @@ pub record Wrote (text before : List ℕ) (n : ℕ) (after : List ℕ) : Type 0 
 -- A written circuit: an image made from a text. Text and buffer are any at all
 pub record TextToImage (text before : List ℕ) : Type 0 where
   -- every text and every buffer gets a response, and only one, with all that is left in the buffer
-  pub some : (X : Made) × (after : List ℕ) × TextCall text before X after
-  pub one : {X Y : Made} {a b : List ℕ} → TextCall text before X a → TextCall text before Y b → (X ≡ Y) × (a ≡ b)
+  pub some : (X : Result ℕ Refusal) × (after : List ℕ) × TextCall text before X after
+  pub one : {X Y : Result ℕ Refusal} {a b : List ℕ} → TextCall text before X a → TextCall text before Y b → (X ≡ Y) × (a ≡ b)
   -- the grammar gives a text at most one reading, and each window one meaning
   pub one_reading : {xs ys : List Line} → Reads text xs → Reads text ys → xs ≡ ys
   pub one_meaning : {s : List ℕ} {v w : Window} → Written s v → Written s w → v ≡ w
   -- 15 is said exactly where the text has no reading, with the lowest line at fault
-  pub faulty : {X : Made} {after : List ℕ} → TextCall text before X after → (n : ℕ) → (X ≡ answer.Refused 15 n) ↔ Fault text n
+  pub faulty : {X : Result ℕ Refusal} {after : List ℕ} → TextCall text before X after → (n : ℕ) → (X ≡ Err (refusal by.Text n)) ↔ Fault text n
   pub no_reading : ((n : ℕ) × Fault text n) ↔ ((lines : List Line) → Reads text lines → ⊥)
   -- otherwise what the rules say of the image of its lines; then whether the buffer is long enough
-  pub refused : {lines : List Line} {X : Made} {after : List ℕ} → Reads text lines → TextCall text before X after → (rule culprit : ℕ) →
-      (X ≡ answer.Refused rule culprit) ↔
-      ((check_of (image_from lines) ≡ check.Refused rule culprit) ⊎
-      ((rule ≡ 16) × (culprit ≡ 0) × Valid (image_from lines) × (length before < length (image_from lines))))
+  pub refused : {lines : List Line} {X : Result ℕ Refusal} {after : List ℕ} → Reads text lines → TextCall text before X after → (why : Refusal) →
+      (X ≡ Err why) ↔
+      ((check_of (image_from lines) ≡ Err why) ⊎
+      ((why ≡ refusal by.ImageBuffer 0) × Valid (image_from lines) × (length before < length (image_from lines))))
   -- there are no other numbers of refusal
-  pub numbers : {rule culprit : ℕ} {after : List ℕ} → TextCall text before (answer.Refused rule culprit) after →
-      Among rule (15 ∷ 3 ∷ 4 ∷ 6 ∷ 7 ∷ 8 ∷ 9 ∷ 16 ∷ [])
+  pub numbers : {why : Refusal} {after : List ℕ} → TextCall text before (Err why) after →
+      Among (number_of why.rule) (15 ∷ 3 ∷ 4 ∷ 6 ∷ 7 ∷ 8 ∷ 9 ∷ 16 ∷ [])
   -- nothing is written on any of them
-  pub keeps : {rule culprit : ℕ} {after : List ℕ} → TextCall text before (answer.Refused rule culprit) after → after ≡ before
+  pub keeps : {why : Refusal} {after : List ℕ} → TextCall text before (Err why) after → after ≡ before
   -- where it writes, the image carries what the text says
-  pub wrote : {n : ℕ} {after : List ℕ} → TextCall text before (answer.Image n) after → Wrote text before n after
+  pub wrote : {n : ℕ} {after : List ℕ} → TextCall text before (Ok n) after → Wrote text before n after
 
 -- Phases that close together act as one: two neighbouring phases are exchanged that close at the same time, and the phases of the synchronizers are
 -- renumbered to suit. Buffers and the synchronizer i asked about are any at all
@@ -96,11 +96,11 @@ pub record PhasesExchanged (p : ℕ) (first second : List ℕ) (numbers : List �
   pub valid : Exchanged p first second → Valid first ↔ Valid second
   pub checked : Exchanged p first second → Valid first → check_of second ≡ check_of first
   -- an image that is refused stays refused by the same rule; and for the same record, but where phases are at fault, which is rule 6
-  pub refused : {rule n : ℕ} → Exchanged p first second → check_of first ≡ check.Refused rule n →
-      (m : ℕ) × (check_of second ≡ check.Refused rule m) × ((m ≡ n) ⊎ (rule ≡ 6))
+  pub refused : {rule : Rule} {n : ℕ} → Exchanged p first second → check_of first ≡ Err (refusal rule n) →
+      (m : ℕ) × (check_of second ≡ Err (refusal rule m)) × ((m ≡ n) ⊎ (rule ≡ by.Phases))
   -- no time, slack or verdict changes, nor a growing ring or its gain: what timing may answer of one and leave in its buffers, it may of the other
-  pub timing : {X : Answer} {R : List ℤ} {A : List ℕ} → Exchanged p first second → Valid first →
+  pub timing : {X : Result Answer Refusal} {R : List ℤ} {A : List ℕ} → Exchanged p first second → Valid first →
       Timing first numbers arcs X R A ↔ Timing second numbers arcs X R A
   -- every path is a path of the other, and every report its report
-  pub path : {X : Way} {A : List ℕ} → Exchanged p first second → Valid first → PathCall first i arcs X A ↔ PathCall second i arcs X A
+  pub path : {X : Result Path Refusal} {A : List ℕ} → Exchanged p first second → Valid first → PathCall first i arcs X A ↔ PathCall second i arcs X A
   pub report : {size : ℕ} {after : List ℕ} → Exchanged p first second → Valid first → Report first text size after ↔ Report second text size after

@@ -1,5 +1,6 @@
 -- Arcs that lead somewhere, as they stand at the front of the arc buffer that a call leaves.
-use Rattle.std.specs.Prelude.{◌≡◌, true, List, [], ◌∷◌, ◌++◌, ℕ, ◌≤◌, ◌<◌, ℤ, pos, ◌+ℤ◌, length, take, drop, ◌<ℤ◌}
+use Rattle.std.specs.Prelude.{◌≡◌, true, List, [], ◌∷◌, ◌++◌, ℕ, ◌≤◌, ◌<◌, ℤ, pos, ◌+ℤ◌, length, take, drop, ◌<ℤ◌, Result, Ok}
+use Rattle.image.specs.declared.refusal.Refusal.{Refusal}
 use Rattle.flow.specs.Flow.{late}
 use Rattle.flow.specs.Walk.{gain, sources, Every, Distinct}
 use Rattle.circuit.specs.Circuit.{Circuit}
@@ -51,5 +52,5 @@ pub record Rotated (p q : List ℕ) : Type 0 where
   pub other : q ≡ back ++ front
 
 -- if both answers show a loop, it is the same ring
-abbrev pub OneRing : Answer → List ℕ → Answer → List ℕ → Type 0
-OneRing X A Y B = (m n : ℕ) (g h : ℤ) → X ≡ Growing m g → Y ≡ Growing n h → Rotated (take m A) (take n B)
+abbrev pub OneRing : Result Answer Refusal → List ℕ → Result Answer Refusal → List ℕ → Type 0
+OneRing X A Y B = (m n : ℕ) (g h : ℤ) → X ≡ Ok (Growing m g) → Y ≡ Ok (Growing n h) → Rotated (take m A) (take n B)

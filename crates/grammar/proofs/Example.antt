@@ -3,13 +3,14 @@ use mathlib.Core.Path.{◌≡◌, refl, ap}
 use mathlib.Core.List.{List, [], ◌∷◌}
 use mathlib.Core.Logic.{inl}
 use Prim.Native.Char.{code}
-use Prim.Native.Nat.{ℕ, ◌≤◌}
+use Prim.Native.Nat.{ℕ}
 use Prim.Native.String.{String, [] as none, ◌∷◌ as ◌then◌}
 use native.Mathlib.Omega.{arith}
-use lib.Dec.{lit<, lit≤}
+use lib.Dec.{lit≤}
 use lib.ListN.{length, drop}
+use Rattle.std.specs.Prelude.{None}
 use Rattle.grammar.specs.Text.{start, Reads, Fault, at_line}
-use Rattle.grammar.specs.Inside.Reader.{lost, line_at}
+use Rattle.grammar.specs.Inside.Reader.{line_at}
 use Rattle.grammar.specs.declared.read.Line.TheVariants.{Cycle, Phase, Synchronizer}
 use Rattle.grammar.specs.declared.read.Read.{Read}
 use Rattle.grammar.proofs.Computed.{reading, said, Found, begun, none_stands}
@@ -33,7 +34,7 @@ unfolding reading
 found = (refl, (refl, (refl, tt)))
 
 pub reads : Reads written (said lines)
-reads = record { short = lit≤ tt; stage = 2; begun = lit≤ tt; whole = begun written (lit≤ tt) lines 0 0 [] start found refl }
+reads = record { short = lit≤ tt; stage = 2; begun = lit≤ tt; whole = begun written lines 0 0 [] start found refl }
 
 -- a phase without its second number
 abbrev cut : List ℕ
@@ -46,9 +47,9 @@ cut_found : Found cut 0 before
 unfolding reading
 cut_found = (refl, tt)
 
-cut_lost : (line_at cut 6).next ≡ lost
+cut_none : line_at cut 6 ≡ None
 unfolding reading
-cut_lost = refl
+cut_none = refl
 
 pub fails : Fault cut 1
 fails = at_line (record {
@@ -56,8 +57,8 @@ fails = at_line (record {
   stage = 1;
   lines = said before;
   rest = drop 6 cut;
-  before = begun cut (lit≤ tt) before 0 0 [] start cut_found refl;
+  before = begun cut before 0 0 [] start cut_found refl;
   count = refl;
   unfinished = inl (λ e. let long = ap length e in omega (arith, long));
-  stuck = none_stands cut (lit≤ tt) 6 1 (lit< tt) cut_lost;
+  stuck = none_stands cut 6 1 cut_none;
 })

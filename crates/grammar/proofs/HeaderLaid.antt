@@ -2,7 +2,7 @@
 -- image only 3 and 4, on the cycle and the counts, may apply. Each word of the header is small enough for 32 bits, since the lines are few.
 use mathlib.Core.Path.{◌≡◌, refl, ap}
 use mathlib.Core.List.{List, [], ◌∷◌, ◌++◌, map, append_assoc}
-use Prim.Native.Nat.{ℕ, suc, ◌+◌, ◌*◌, ◌≤◌, ◌<◌}
+use Prim.Native.Nat.{ℕ, suc, ◌*◌, ◌≤◌, ◌<◌}
 use native.Mathlib.Omega.{arith}
 use lib.ListN.{length, get_or, length-append}
 use borrow.Author.Tests.{le-ltb, eq-eqb}
@@ -12,6 +12,7 @@ use Rattle.image.specs.Rules.{bad_cycle, bad_counts}
 use Rattle.image.specs.Checks.{refuse, records_of, check_of}
 use Rattle.image.specs.declared.header.Header.{Header}
 use Rattle.image.specs.declared.header.Part.TheVariants as part
+use Rattle.image.specs.declared.refusal.Rule.TheVariants as by
 use Rattle.grammar.specs.Text.{longest_text}
 use Rattle.grammar.specs.Layout.{bytes_of, table, header_words, phase_words, synchronizer_words, arc_words, cycle_of, phases_of, synchronizers_of, arcs_of}
 use Rattle.grammar.specs.Layout.{image_from}
@@ -111,7 +112,7 @@ module _ (lines : List Line) (small : AllSmall lines) (few : length lines ≤ lo
 
   -- rules 1, 2 and 5 do not apply
   pub check_laid : check_of (image_from lines)
-      ≡ refuse (bad_cycle (header_for lines)) 3 0 (refuse (bad_counts (header_for lines)) 4 0 (records_of (image_from lines) (image_of (header_for lines))))
+      ≡ refuse (bad_cycle (header_for lines)) by.Cycle 0 (refuse (bad_counts (header_for lines)) by.Counts 0 (records_of (image_from lines) (image_of (header_for lines))))
   unfolding check_of
   check_laid =
       let h : Header = header_for lines in

@@ -1,5 +1,4 @@
 pub mod Places
-pub mod Onward
 pub mod Rows
 pub mod Sound
 pub mod Complete

@@ -9,6 +9,7 @@ use native.Mathlib.Decide.{dec_lt}
 use native.Mathlib.Omega.{arith}
 use lib.ListN.{length, take, drop, length-append}
 use lib.Seq.{length-take-le, take-append-le, take_at}
+use Rattle.std.proofs.lemmas.Option.{same_Some}
 use Rattle.grammar.specs.Windows.{Window, Written}
 use Rattle.grammar.specs.Lines.{Says}
 use Rattle.grammar.specs.Text.{line_feed, InPlace, Begins, start, one_more, Reads, Stuck, Stops, Fault, too_long, at_line}
@@ -21,14 +22,14 @@ use Rattle.grammar.proofs.Complete.{line_complete, window_complete, beyond}
 pub window_one : {s : List ℕ} {v w : Window} → Written s v → Written s w → v ≡ w
 window_one {s} {v} {w} m n =
     let bytes : List ℕ = s ++ (line_feed ∷ []) in
-    let same = sym (window_complete bytes s [] 0 v m refl) ∙ window_complete bytes s [] 0 w n refl in
+    let same = same_Some _ _ (sym (window_complete bytes s [] 0 v m refl) ∙ window_complete bytes s [] 0 w n refl) in
     ap (λ (x : Span). record { low = x.low; high = x.high }) same
 
 -- one line, and one rest behind it
 pub line_one : (s s' r r' : List ℕ) (x x' : Line) → s ++ (line_feed ∷ r) ≡ s' ++ (line_feed ∷ r') → Says s x → Says s' x' → (x ≡ x') × (r ≡ r')
 line_one s s' r r' x x' e h h' =
     let bytes : List ℕ = s ++ (line_feed ∷ r) in
-    let same = sym (line_complete bytes s r 0 x h refl) ∙ line_complete bytes s' r' 0 x' h' e in
+    let same = same_Some _ _ (sym (line_complete bytes s r 0 x h refl) ∙ line_complete bytes s' r' 0 x' h' e) in
     let place : 0 + length s + 1 ≡ 0 + length s' + 1 = ap (λ (q : Read). q.next) same in
     (ap (λ (q : Read). q.line) same, sym (beyond bytes s r 0 line_feed refl) ∙ ap (λ (n : ℕ). drop n bytes) place ∙ beyond bytes s' r' 0 line_feed e)
 

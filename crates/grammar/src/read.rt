@@ -1,4 +1,4 @@
-// What a reader read, and the place behind it. A place that no text has says that nothing was read.
+// What a reader read, and the place behind it. No plainer as one generic type: a field of its own name says what was read.
 use image::{Arc, Phase, Synchronizer};
 
 #[derive(Clone, Copy)]

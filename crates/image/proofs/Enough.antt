@@ -3,6 +3,7 @@
 use mathlib.Core.Path.{◌≡◌, refl, sym, ◌∙◌}
 use mathlib.Core.Bool.{Bool, true, false, not}
 use mathlib.Core.List.{List}
+use Rattle.std.specs.Prelude.{Result, Err}
 use Prim.Native.Nat.{ℕ, ◌+◌, ◌≤◌, ◌<◌}
 use native.Mathlib.Omega.{arith}
 use lib.Dec.{eqb, leb}
@@ -12,11 +13,13 @@ use borrow.Author.Tests.{le-ltb, leb-true, leb-false}
 use Rattle.image.specs.Words.{word_at}
 use Rattle.image.specs.Header.{header_bytes, header_of, most_bytes}
 use Rattle.image.specs.Rules.{bad_cycle, bad_counts, bad_layout}
+use Rattle.image.specs.Refusal.{refusal}
 use Rattle.image.specs.Checks.{refuse, check_of}
 use Rattle.image.specs.Valid.{Valid}
 use Rattle.image.specs.declared.header.Header.{Header}
-use Rattle.image.specs.declared.checks.Checked.{Checked}
-use Rattle.image.specs.declared.checks.Checked.TheVariants.{Refused}
+use Rattle.image.specs.declared.header.Image.{Image}
+use Rattle.image.specs.declared.refusal.Rule.TheVariants as by
+use Rattle.image.specs.declared.refusal.Refusal.{Refusal}
 use Rattle.image.proofs.Validity.{counts_iff, layout_iff}
 
 -- the number of docs/RULES.md
@@ -38,8 +41,8 @@ too_long h n long counts = go (bad_layout h n) refl
         absurd z
 
 -- the answer about an input that is longer than any image
-abbrev pub long_of : Header → Checked
-long_of h = refuse (not (eqb h.version 1)) 2 0 (refuse (bad_cycle h) 3 0 (refuse (bad_counts h) 4 0 (Refused 5 0)))
+abbrev pub long_of : Header → Result Image Refusal
+long_of h = refuse (not (eqb h.version 1)) by.Version 0 (refuse (bad_cycle h) by.Cycle 0 (refuse (bad_counts h) by.Counts 0 (Err (refusal by.Layout 0))))
 
 pub long_is : (bytes : List ℕ) → most_bytes < length bytes → check_of bytes ≡ long_of (header_of bytes)
 unfolding check_of
@@ -47,8 +50,8 @@ long_is bytes long =
     let h = header_of bytes in
     rw (le-ltb (length bytes) header_bytes (omega arith), last (bad_counts h) _ refl)
   where
-    last : (b : Bool) (rest : Checked) → bad_counts (header_of bytes) ≡ b →
-        refuse b 4 0 (refuse (bad_layout (header_of bytes) (length bytes)) 5 0 rest) ≡ refuse b 4 0 (Refused 5 0)
+    last : (b : Bool) (rest : Result Image Refusal) → bad_counts (header_of bytes) ≡ b →
+        refuse b by.Counts 0 (refuse (bad_layout (header_of bytes) (length bytes)) by.Layout 0 rest) ≡ refuse b by.Counts 0 (Err (refusal by.Layout 0))
     last true rest e = refl
     last false rest e = rw (too_long (header_of bytes) (length bytes) long e)
 

@@ -5,7 +5,9 @@ use mathlib.Core.Bool.{Bool, true, false, cond}
 use Prim.Native.Nat.{ℕ, zero, suc, ◌≤◌, ◌<◌}
 use native.Mathlib.Omega.{arith}
 use native.Mathlib.Decide.{dec_lt}
-use Rattle.image.specs.Rules.{lowest_of}
+use borrow.Author.Tests.{lt-ltb, le-ltb}
+use Rattle.std.specs.Prelude.{Option, Some, None, MatchOption}
+use Rattle.image.specs.Rules.{lowest_of, lowest_found}
 use Rattle.image.proofs.Tests.{false_true}
 
 pub record FirstBad (bad : ℕ → Bool) (n i : ℕ) : Type 0 where
@@ -49,3 +51,11 @@ module _ (bad : ℕ → Bool) (n : ℕ) where
 
   pub lowest_none : ((j : ℕ) → j < n → bad j ≡ false) → lowest_of bad n ≡ n
   lowest_none h = sym (lowest_eq {i = n} (record { within = omega arith; passed = h; fails = λ l. let z : ⊥ = omega arith in absurd z }))
+
+  -- what a search from the front finds
+  pub lowest_by : (r : Option ℕ) → MatchOption r ((k : ℕ) → 0 ≤ k → k < n → bad k ≡ false) (λ i. (0 ≤ i) × (i < n) × (bad i ≡ true) × ((k : ℕ) → 0 ≤ k → k < i → bad k ≡ false))
+      → r ≡ lowest_found bad n
+  lowest_by None h = let same = lowest_none (λ k. h k (omega arith)) in rw (le-ltb (lowest_of bad n) n (omega (arith, same)))
+  lowest_by (Some i) h =
+      let same = lowest_eq (record { within = omega (arith, h.1); passed = λ k. h.3 k (omega arith); fails = λ _. h.2 }) in
+      rw (← same, lt-ltb i n h.1)

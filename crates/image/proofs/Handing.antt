@@ -1,8 +1,8 @@
 -- A reader hands out the records of a table in order: at record i of n it finds record i and then stands at the next, and behind the last
 -- record it finds the end and stays. The idea: record i ends where record i + 1 starts, which is no later than the table's end where i is
 -- below n. And in a good image each table ends where the next one starts, the last where the image ends.
-use mathlib.Core.Path.{◌≡◌, refl, ap, ◌∙◌}
-use mathlib.Core.Bool.{Bool, true, false}
+use mathlib.Core.Path.{◌≡◌, refl}
+use mathlib.Core.Bool.{true, false}
 use mathlib.Core.List.{List}
 use Prim.Native.Nat.{ℕ, zero, suc, ◌+◌, ◌≤◌, ◌<◌}
 use native.Mathlib.Nat.{mul-suc, mul-le-mul_left}
@@ -10,21 +10,16 @@ use native.Mathlib.Omega.{arith}
 use lib.ListN.{length}
 use borrow.Author.Tests.{le-leb, lt-leb}
 use denote.Ref.{Bor}
+use Rattle.std.specs.Prelude.{Some, None}
 use Rattle.image.specs.Words.{fits_of}
 use Rattle.image.specs.Header.{phase_bytes, arc_bytes}
-use Rattle.image.specs.Records.{place_of, phase_at, synchronizer_at, arc_at}
-use Rattle.image.specs.Reader.{place_or, onward_of, record_from, record_or_end, found_of, reader_at, next_of}
+use Rattle.image.specs.Records.{place_of, phase_from, synchronizer_from, arc_from, phase_at, synchronizer_at, arc_at}
+use Rattle.image.specs.Reader.{found_of, reader_at, next_of}
 use Rattle.image.specs.Valid.{Valid, image_in}
 use Rattle.image.specs.declared.header.Layout.{Layout}
-use Rattle.image.specs.declared.reader.Table.{Table}
-use Rattle.image.specs.declared.reader.Table.TheVariants.{Phases, Synchronizers, Arcs}
-use Rattle.image.specs.declared.reader.Record.TheVariants as found
 
 -- n records of that size, from the byte `start` on
 module _ (start size : ℕ) where
-  behind : (i : ℕ) → place_of start size i + size ≡ place_of start size (suc i)
-  behind i = omega (arith, mul-suc size i)
-
   inside : (i n : ℕ) → i < n → fits_of (place_of start size i) size (place_of start size n) ≡ true
   inside i n h =
       let k : suc i ≤ n = omega arith in
@@ -33,46 +28,31 @@ module _ (start size : ℕ) where
   outside : (n : ℕ) → zero < size → fits_of (place_of start size n) size (place_of start size n) ≡ false
   outside n h = lt-leb (place_of start size n + size) (place_of start size n) (omega arith)
 
-  moved : (i n : ℕ) → i < n → onward_of (place_of start size i) size (place_of start size n) ≡ place_of start size (suc i)
-  moved i n h = ap (λ (b : Bool). place_or b (place_of start size i + size) (place_of start size i)) (inside i n h) ∙ behind i
-
-  stayed : (n : ℕ) → zero < size → onward_of (place_of start size n) size (place_of start size n) ≡ place_of start size n
-  stayed n h = ap (λ (b : Bool). place_or b (place_of start size n + size) (place_of start size n)) (outside n h)
-
--- handed out are the records of the table, whatever it is
-module _ (bytes : Bor (List ℕ)) (table : Table) (start size : ℕ) where
+-- handed out are the records of the table, whatever they are: `from` says which record starts at a byte
+module _ {R : Type 0} (from : List ℕ → ℕ → R) (bytes : Bor (List ℕ)) (start size : ℕ) where
   pub handed : (i n : ℕ) → i < n →
-      next_of (reader_at bytes (place_of start size i)) table size (place_of start size n)
-      ≡ record { bytes = bytes; at = place_of start size (suc i); found = record_from bytes.now table (place_of start size i) }
-  unfolding found_of
-  handed i n h = λ j. record {
-    bytes = bytes;
-    at = moved start size i n h j;
-    found = record_or_end (inside start size i n h j) (record_from bytes.now table (place_of start size i));
-  }
+      (next_of (reader_at bytes (place_of start size i)) size (place_of start size n) ≡ reader_at bytes (place_of start size (suc i)))
+      × (found_of from bytes.now (place_of start size i) size (place_of start size n) ≡ Some (from bytes.now (place_of start size i)))
+  handed i n h =
+      let behind : place_of start size i + size ≡ place_of start size (suc i) = omega (arith, mul-suc size i) in
+      (rw (inside start size i n h, behind) refl, rw (inside start size i n h) refl)
 
   pub ended : (n : ℕ) → zero < size →
-      next_of (reader_at bytes (place_of start size n)) table size (place_of start size n)
-      ≡ record { bytes = bytes; at = place_of start size n; found = found.End }
-  unfolding found_of
-  ended n h = λ j. record {
-    bytes = bytes;
-    at = stayed start size n h j;
-    found = record_or_end (outside start size n h j) (record_from bytes.now table (place_of start size n));
-  }
+      (next_of (reader_at bytes (place_of start size n)) size (place_of start size n) ≡ reader_at bytes (place_of start size n))
+      × (found_of from bytes.now (place_of start size n) size (place_of start size n) ≡ None)
+  ended n h = (rw (outside start size n h) refl, rw (outside start size n h) refl)
 
 -- and they are the records that `read` gives by their numbers
 module _ (bytes : List ℕ) (layout : Layout) (i : ℕ) where
-  pub phase_handed : record_from bytes Phases (place_of layout.phases phase_bytes i) ≡ found.Phase (phase_at bytes layout i)
+  pub phase_handed : phase_from bytes (place_of layout.phases phase_bytes i) ≡ phase_at bytes layout i
   unfolding phase_at
   phase_handed = refl
 
-  pub synchronizer_handed : record_from bytes Synchronizers (place_of layout.synchronizers layout.synchronizer_bytes i)
-      ≡ found.Synchronizer (synchronizer_at bytes layout i)
+  pub synchronizer_handed : synchronizer_from bytes (place_of layout.synchronizers layout.synchronizer_bytes i) ≡ synchronizer_at bytes layout i
   unfolding synchronizer_at
   synchronizer_handed = refl
 
-  pub arc_handed : record_from bytes Arcs (place_of layout.arcs arc_bytes i) ≡ found.Arc (arc_at bytes layout i)
+  pub arc_handed : arc_from bytes (place_of layout.arcs arc_bytes i) ≡ arc_at bytes layout i
   unfolding arc_at
   arc_handed = refl
 

@@ -35,11 +35,11 @@ use denote.Triple.Statement.{Contract}
 use denote.Triple.Clauses.{ensured, lasts}
 use denote.Triple.Spec.{triple_of}
 use Rattle.image.specs.Reader.{onward_of, reader_at}
-use Rattle.image.specs.declared.reader.Table.{Table}
+use Rattle.image.specs.declared.header.Part.{Part}
 use Rattle.image.specs.declared.reader.Reader.{Reader}
 use Rattle.image.proofs.WalkSteps.{number}
-use Rattle.image.specs.contracts.reader.Table as P
-use Rattle.image.proofs.reader.Table.TheLaws as P'
+use Rattle.image.specs.contracts.header.Part as P
+use Rattle.image.proofs.header.Part.TheLaws as P'
 use Rattle.image.specs.contracts.reader.Reader as R
 use Rattle.image.proofs.reader.Reader.TheLaws as R'
 use Rattle.image.specs.contracts.reader.Reader.new as new
@@ -69,12 +69,12 @@ reader_type κs = R.the_type (named_lft 1 0 tt κs)
 abbrev pub reader_laws : (κs : Lfts 1) → LL.Laws (reader_type κs)
 reader_laws κs = R'.the_laws (named_lft 1 0 tt κs)
 
--- what is known of a table that was passed. It owns facts alone, and joins what the head owns
-abbrev pub TableKnown : Table → Type 0
+-- what is known of a table, a part of the image, that was passed. It owns facts alone, and joins what the head owns
+abbrev pub TableKnown : Part → Type 0
 TableKnown p = Is P.the_row p (EL.vals P.the_type P'.the_laws p)
 
 pub tabled : {M : Type 1} {𝓤 : Ura M} {𝓛 : Logic 𝓤} {K : Type 0} {Γ : List (Item 𝓤)}
-    {G : Goal 𝓤 𝓛.H} → K → (p : Table) → TableKnown p → {F : Fml}
+    {G : Goal 𝓤 𝓛.H} → K → (p : Part) → TableKnown p → {F : Fml}
     → Step K 𝓛 (‵ (fsep ((P.the_row).own_val p (EL.vals P.the_type P'.the_laws p)) F) ∷ Γ) G (‵ F ∷ Γ) G
 tabled {𝓤 = 𝓤} {𝓛 = 𝓛} t p known = step (λ s. owned t P.the_row (Is P.the_row) (EL.makes P.the_type P'.the_plain 𝓛) p _ known $ fjoin t $ s)
 

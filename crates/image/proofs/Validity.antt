@@ -1,9 +1,10 @@
 -- An image is accepted exactly where it is valid. Each rule's test fails exactly where what the rule forbids does not
--- hold, and an answer is Good exactly where every test fails.
+-- hold, and an answer is Ok exactly where every test fails.
 use mathlib.Core.Path.{◌≡◌, refl}
 use mathlib.Core.Bool.{Bool, true, false, not}
 use mathlib.Core.List.{List}
 use mathlib.Core.Logic.{◌↔◌}
+use Rattle.std.specs.Prelude.{Result, Ok}
 use Prim.Native.Nat.{ℕ, zero, suc, ◌+◌, ◌*◌, ◌-◌, ◌<◌, ◌≤◌}
 use native.Mathlib.Omega.{arith}
 use lib.Dec.{ltb, eqb}
@@ -16,12 +17,12 @@ use Rattle.image.specs.Valid.{image_in, phase_in, synchronizer_in, arc_in, Befor
 use Rattle.image.specs.declared.header.Header.{Header}
 use Rattle.image.specs.declared.header.Image.{Image}
 use Rattle.image.specs.declared.records.Arc.{Arc}
-use Rattle.image.specs.declared.checks.Checked.{Checked}
-use Rattle.image.specs.declared.checks.Checked.TheVariants.{Good}
+use Rattle.image.specs.declared.refusal.Rule.{Rule}
+use Rattle.image.specs.declared.refusal.Refusal.{Refusal}
 use Rattle.image.proofs.FirstBad.{lowest_is, lowest_none}
 use Rattle.image.proofs.Tests.{ltb_iff, leb_iff, differs_iff, below_iff, same_iff, or_iff, and_iff, either_iff, both_iff, not_iff}
 
-good_iff : (b : Bool) (rule culprit : ℕ) (rest : Checked) (x : Image) → (refuse b rule culprit rest ≡ Good x) ↔ ((b ≡ false) × (rest ≡ Good x))
+good_iff : (b : Bool) (rule : Rule) (culprit : ℕ) (rest : Result Image Refusal) (x : Image) → (refuse b rule culprit rest ≡ Ok x) ↔ ((b ≡ false) × (rest ≡ Ok x))
 good_iff true rule culprit rest x = (λ h. (cc, cc), λ h. cc)
 good_iff false rule culprit rest x = (λ h. (refl, h), λ h. h.1)
 
@@ -58,7 +59,7 @@ pub record RulesPassed (bytes : List ℕ) : Type 0 where
   pub order : (i : ℕ) → i < (image_in bytes).arcs → bad_order bytes (image_in bytes) i ≡ false
 
 module _ (bytes : List ℕ) where
-  pub passed : (x : Image) → check_of bytes ≡ Good x → RulesPassed bytes
+  pub passed : (x : Image) → check_of bytes ≡ Ok x → RulesPassed bytes
   unfolding check_of records_of
   passed x h =
       let long = (good_iff (ltb (length bytes) header_bytes) _ _ _ x).0 h in
@@ -82,7 +83,7 @@ module _ (bytes : List ℕ) where
         order = (none_iff _ _).0 order.0;
       }
 
-  pub accepted : RulesPassed bytes → check_of bytes ≡ Good (image_in bytes)
+  pub accepted : RulesPassed bytes → check_of bytes ≡ Ok (image_in bytes)
   unfolding check_of records_of
   accepted p =
       (good_iff _ _ _ _ _).1 (
@@ -227,8 +228,8 @@ module _ (bytes : List ℕ) where
       ordered (suc i) l z = rw (back i) (v.ordered i l)
 
 -- an image is accepted exactly where it is valid, and then the answer is what its header says
-pub accepts : (bytes : List ℕ) → Valid bytes ↔ (check_of bytes ≡ Good (image_in bytes))
+pub accepts : (bytes : List ℕ) → Valid bytes ↔ (check_of bytes ≡ Ok (image_in bytes))
 accepts bytes = (λ v. accepted bytes (fails bytes v), λ h. valid bytes (passed bytes _ h))
 
-pub accepted_is : (bytes : List ℕ) (x : Image) → check_of bytes ≡ Good x → x ≡ image_in bytes
+pub accepted_is : (bytes : List ℕ) (x : Image) → check_of bytes ≡ Ok x → x ≡ image_in bytes
 accepted_is bytes x h = let k = accepted bytes (passed bytes x h) in cc

@@ -1,7 +1,9 @@
 pub mod Words
 pub mod Header
+pub mod Kind
 pub mod Records
 pub mod Reader
+pub mod Refusal
 pub mod Rules
 pub mod Checks
 pub mod Valid

@@ -1,5 +1,5 @@
 -- Rules 3 to 9 of docs/RULES.md, each as the test of what the rule says. A test of a table speaks of one record.
-use Rattle.std.specs.Prelude.{ℕ, zero, suc, ◌+◌, ◌-◌, Bool, ◌||◌, ◌&&◌, not, cond, List, ltb, leb, eqb}
+use Rattle.std.specs.Prelude.{ℕ, zero, suc, ◌+◌, ◌-◌, Bool, false, ◌||◌, ◌&&◌, not, cond, if◌then◌else◌, List, ltb, leb, eqb, Option, Some, None}
 use Rattle.image.specs.Header.{offset_of, most_phases, most_synchronizers, most_arcs, longest_cycle, longest_delay}
 use Rattle.image.specs.Records.{phase_at, synchronizer_at, arc_at}
 use Rattle.image.specs.declared.header.Header.{Header}
@@ -8,8 +8,8 @@ use Rattle.image.specs.declared.header.Part.TheVariants as part
 use Rattle.image.specs.declared.records.Phase.{Phase}
 use Rattle.image.specs.declared.records.Synchronizer.{Synchronizer}
 use Rattle.image.specs.declared.records.Arc.{Arc}
-use Rattle.image.specs.declared.rules.Rule.{Rule}
-use Rattle.image.specs.declared.rules.Rule.TheVariants.{Phases, Synchronizers, Arcs, Order}
+use Rattle.image.specs.declared.refusal.Rule.{Rule}
+use Rattle.image.specs.declared.refusal.Rule.TheVariants.{Phases, Synchronizers, Arcs, Order}
 
 -- 3: Tc outside its limits
 abbrev pub bad_cycle : Header → Bool
@@ -80,13 +80,19 @@ unfoldable pub bad_order : List ℕ → Image → ℕ → Bool
 bad_order bytes image i =
     ltb 0 i && not (precedes (arc_at bytes image.layout (i - 1)) (arc_at bytes image.layout i))
 
+-- the test of a rule about a table; no record breaks another
 abbrev pub breaks_of : List ℕ → Image → Rule → ℕ → Bool
 breaks_of bytes image Phases = bad_phase bytes image
 breaks_of bytes image Synchronizers = bad_synchronizer bytes image
 breaks_of bytes image Arcs = bad_arc bytes image
 breaks_of bytes image Order = bad_order bytes image
+breaks_of bytes image _ = λ i. false
 
 -- the lowest number below n that fails a test, or n where none does
 unfoldable pub lowest_of : (ℕ → Bool) → ℕ → ℕ
 lowest_of bad zero = zero
 lowest_of bad (suc n) = cond (bad zero) zero (suc (lowest_of (λ i. bad (suc i)) n))
+
+-- the same number, where there is one
+abbrev pub lowest_found : (ℕ → Bool) → ℕ → Option ℕ
+lowest_found bad n = if ltb (lowest_of bad n) n then Some (lowest_of bad n) else None

@@ -1,13 +1,13 @@
 // Words of four bytes, the least significant first. Past the end of the image every byte reads 0.
 // A word that lies whole within the image is read without asking of each byte; nearly all do.
 ghost use Rattle.std.specs.Prelude.{◌≡◌, ◌+◌, ◌≤◌, length};
-ghost use Rattle.image.specs.Words.{fits_of, byte_at, word_at, little};
+ghost use Rattle.image.specs.Words.{fits_of, byte_at, word_at};
 
 // Do `size` bytes from a place on end no later than at `end`?
 pub(crate) fn fits(at: usize, size: usize, end: usize) -> bool
     ensures { result ≡ fits_of at size end }
 {
-    if at <= end { size <= end - at } else { false }
+    at <= end && size <= end - at
 }
 
 pub fn byte(bytes: &[u8], at: usize) -> u8
@@ -16,31 +16,27 @@ pub fn byte(bytes: &[u8], at: usize) -> u8
     if at < bytes.len() { bytes[at] } else { 0 }
 }
 
-fn from_little(a: u8, b: u8, c: u8, d: u8) -> u32
-    ensures { result ≡ little a b c d }
-{
-    (a as u32) + 256 * (b as u32) + 65536 * (c as u32) + 16777216 * (d as u32)
-}
-
 // The word at a place that has four bytes.
+#[tactic(auto, unfolding(crate::specs::Words::word_at))]
 pub(crate) fn whole(bytes: &[u8], at: usize) -> u32
     requires { at + 4 ≤ length bytes.now }
     ensures { result ≡ word_at bytes.now at }
 {
-    from_little(bytes[at], bytes[at + 1], bytes[at + 2], bytes[at + 3])
+    u32::from_le_bytes([bytes[at], bytes[at + 1], bytes[at + 2], bytes[at + 3]])
 }
 
 // The word at any place: byte by byte.
+#[tactic(auto, using(crate::proofs::Words::word_past), unfolding(crate::specs::Words::word_at))]
 fn cut(bytes: &[u8], at: usize) -> u32
     ensures { result ≡ word_at bytes.now at }
 {
     if at < bytes.len() {
-        from_little(
+        u32::from_le_bytes([
             byte(bytes, at),
             byte(bytes, at + 1),
             byte(bytes, at + 2),
             byte(bytes, at + 3),
-        )
+        ])
     } else {
         0
     }

@@ -3,65 +3,57 @@ ghost use Rattle.std.specs.Prelude.{◌≡◌};
 ghost use Rattle.image.specs.Checks.{check_of, records_of};
 
 use crate::header::{Header, Image};
+use crate::refusal::{Refusal, Rule};
 use crate::rules::{
-    Rule, arcs_good, bad_counts, bad_cycle, bad_layout, lowest, synchronizers_good,
+    arcs_good, bad_arc, bad_counts, bad_cycle, bad_layout, bad_order, bad_phase, bad_synchronizer,
+    lowest, synchronizers_good,
 };
 
-// A good image, with what it says of itself; or the number of the rule that refuses it (docs/RULES.md), with the lowest record
-// at fault, which is 0 for rules 1 to 5.
-#[derive(Clone, Copy)]
-pub enum Checked {
-    Good(Image),
-    Refused(u32, u32),
-}
-
 // Rules 6 to 9: each goes through its whole table before the next is asked.
-fn check_records(bytes: &[u8], image: Image) -> Checked
+fn check_records(bytes: &[u8], image: Image) -> Result<Image, Refusal>
     ensures { result ≡ records_of bytes.now image }
 {
-    let phase = lowest(bytes, image, Rule::Phases, image.phases);
-    if phase < image.phases {
-        return Checked::Refused(6, phase);
+    if let Some(phase) = lowest(image.phases, |i| bad_phase(bytes, image, i)) {
+        return Err(Rule::Phases.at(phase));
     }
     // A good image ends here. Of another, the searches below find what it breaks.
-    if synchronizers_good(bytes, image) & arcs_good(bytes, image) {
-        return Checked::Good(image);
+    if synchronizers_good(bytes, image) && arcs_good(bytes, image) {
+        return Ok(image);
     }
-    let synchronizer = lowest(bytes, image, Rule::Synchronizers, image.synchronizers);
-    if synchronizer < image.synchronizers {
-        return Checked::Refused(7, synchronizer);
+    if let Some(synchronizer) = lowest(image.synchronizers, |i| bad_synchronizer(bytes, image, i)) {
+        return Err(Rule::Synchronizers.at(synchronizer));
     }
-    let arc = lowest(bytes, image, Rule::Arcs, image.arcs);
-    if arc < image.arcs {
-        return Checked::Refused(8, arc);
+    if let Some(arc) = lowest(image.arcs, |i| bad_arc(bytes, image, i)) {
+        return Err(Rule::Arcs.at(arc));
     }
-    let unordered = lowest(bytes, image, Rule::Order, image.arcs);
-    if unordered < image.arcs {
-        return Checked::Refused(9, unordered);
+    if let Some(unordered) = lowest(image.arcs, |i| bad_order(bytes, image, i)) {
+        return Err(Rule::Order.at(unordered));
     }
-    Checked::Good(image)
+    Ok(image)
 }
 
 const HEADER: usize = Image::HEADER_BYTES as usize;
 
-pub fn check(bytes: &[u8]) -> Checked
+// What a good image says of itself; or the rule that refuses it (docs/RULES.md), with the lowest record at fault.
+#[tactic(auto, unfolding(crate::specs::Checks::check_of))]
+pub fn check(bytes: &[u8]) -> Result<Image, Refusal>
     ensures { result ≡ check_of bytes.now }
 {
     if bytes.len() < HEADER {
-        return Checked::Refused(1, 0);
+        return Err(Rule::Length.into());
     }
     let header = Header::read(bytes);
     if header.version != Image::VERSION {
-        return Checked::Refused(2, 0);
+        return Err(Rule::Version.into());
     }
     if bad_cycle(header) {
-        return Checked::Refused(3, 0);
+        return Err(Rule::Cycle.into());
     }
     if bad_counts(header) {
-        return Checked::Refused(4, 0);
+        return Err(Rule::Counts.into());
     }
     if bad_layout(header, bytes.len() as u64) {
-        return Checked::Refused(5, 0);
+        return Err(Rule::Layout.into());
     }
     check_records(bytes, Image::of(header))
 }

@@ -99,6 +99,7 @@ impl Image {
 }
 
 impl Header {
+    #[tactic(auto, unfolding(crate::specs::Header::header_of))]
     pub fn read(bytes: &[u8]) -> Header
         ensures { result ≡ header_of bytes.now }
     {
@@ -115,11 +116,11 @@ impl Header {
     }
 }
 
-impl Image {
-    // The tables start where the header says, which rule 5 holds to the offsets above.
-    pub fn of(header: Header) -> Image
-        ensures { result ≡ image_of header }
-    {
+// The tables start where the header says, which rule 5 holds to the offsets above.
+impl From<Header> for Image {
+    ghost from_gives = { λ header image. image ≡ image_of header };
+
+    fn from(header: Header) -> Image {
         Image {
             cycle: header.cycle,
             phases: header.phases,
@@ -132,5 +133,14 @@ impl Image {
                 synchronizer_bytes: Image::SYNCHRONIZER_BYTES,
             },
         }
+    }
+}
+
+impl Image {
+    // The conversion, under the name that docs/PROMISES.md promises.
+    pub fn of(header: Header) -> Image
+        ensures { result ≡ image_of header }
+    {
+        Image::from(header)
     }
 }

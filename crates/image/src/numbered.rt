@@ -1,89 +1,60 @@
-// One record of a table, by its number. `read` takes it from a reader that is made at its place, in a table that ends with it; `of` takes
-// it whole where all the table is there.
-ghost use Rattle.std.specs.Prelude.{◌≡◌};
-ghost use Rattle.image.specs.Records.{phase_at, synchronizer_at, arc_at};
+// One record of a table, by its number.
+ghost use Rattle.std.specs.Prelude.{◌≡◌, ℕ, List, refl};
+ghost use Rattle.image.specs.Records.{place_of, phase_at, synchronizer_at, arc_at};
+ghost use Rattle.image.specs.declared.header.Layout.{Layout};
 
 use crate::header::{Image, Layout};
-use crate::reader::{Record, Table, first};
-use crate::records::{ARC, Arc, PHASE, Phase, Synchronizer, place};
+use crate::reader::Reader;
+use crate::records::{Arc, Phase, Stored, Synchronizer, place};
 
-impl Phase {
-    pub fn read(bytes: &[u8], layout: Layout, i: u32) -> Phase
-        ensures { result ≡ phase_at bytes.now layout i }
+pub trait Record: Stored {
+    // Record i of its table, which the layout places.
+    ghost numbered: { List ℕ → Layout → ℕ → Self };
+
+    ghost lies: { (bytes : List ℕ) (layout : Layout) (i : ℕ) → numbered bytes layout i ≡ Self.from bytes (place_of (Self.table layout) (Self.size layout) i) };
+
+    // From a reader that is made at the record's place, in a table that ends with the record.
+    final fn read(bytes: &[u8], layout: Layout, i: u32) -> Self
+        ensures { result ≡ numbered bytes.now layout i }
     {
-        let at = place(layout.phases, Image::PHASE_BYTES, i);
-        match first(bytes, Table::Phases, at, PHASE, at + PHASE) {
-            Record::Phase(phase) => phase,
-            _ => Phase {
-                closing: 0,
-                active: 0,
-            },
+        let size = Self::size(layout);
+        let at = place(Self::table(layout), size, i);
+        let mut reader = Reader::new(bytes, at);
+        reader.next(size as usize, at + size as usize).unwrap()
+    }
+
+    // As `read`, where the image says how many there are: whole, where all the table is there. Whether all of it lies within the bytes is the
+    // same question for each record, so compiled code asks it once for a loop over the table.
+    final fn of(bytes: &[u8], image: Image, i: u32) -> Self
+        ensures { result ≡ numbered bytes.now image.layout i }
+    {
+        let table = Self::table(image.layout);
+        let count = Self::count(image);
+        if Self::size(image.layout) == Self::BYTES
+            && i < count
+            && place(table, Self::BYTES, count) <= bytes.len()
+        {
+            Self::whole(bytes, place(table, Self::BYTES, i))
+        } else {
+            Self::read(bytes, image.layout, i)
         }
     }
 }
 
-impl Synchronizer {
-    pub fn read(bytes: &[u8], layout: Layout, i: u32) -> Synchronizer
-        ensures { result ≡ synchronizer_at bytes.now layout i }
-    {
-        let at = place(layout.synchronizers, layout.synchronizer_bytes, i);
-        let size = layout.synchronizer_bytes as usize;
-        match first(bytes, Table::Synchronizers, at, size, at + size) {
-            Record::Synchronizer(synchronizer) => synchronizer,
-            _ => Synchronizer {
-                phase: 0,
-                kind: 0,
-                setup: 0,
-                hold: 0,
-                least: 0,
-                greatest: 0,
-            },
-        }
-    }
+impl Record for Phase {
+    ghost numbered = { phase_at };
 
-    // As `read`, where the image says how many there are. Whether all of them lie within the bytes is the same question for each, so compiled
-    // code asks it once for a loop over the table.
-    pub fn of(bytes: &[u8], image: Image, i: u32) -> Synchronizer
-        ensures { result ≡ synchronizer_at bytes.now image.layout i }
-    {
-        let table = image.layout.synchronizers;
-        if image.layout.synchronizer_bytes == Image::SYNCHRONIZER_BYTES {
-            if i < image.synchronizers {
-                if place(table, Image::SYNCHRONIZER_BYTES, image.synchronizers) <= bytes.len() {
-                    return Synchronizer::whole(bytes, place(table, Image::SYNCHRONIZER_BYTES, i));
-                }
-            }
-        }
-        Synchronizer::read(bytes, image.layout, i)
-    }
+    ghost lies = { λ bytes layout i. unfold phase_at in refl };
 }
 
-impl Arc {
-    pub fn read(bytes: &[u8], layout: Layout, i: u32) -> Arc
-        ensures { result ≡ arc_at bytes.now layout i }
-    {
-        let at = place(layout.arcs, Image::ARC_BYTES, i);
-        match first(bytes, Table::Arcs, at, ARC, at + ARC) {
-            Record::Arc(arc) => arc,
-            _ => Arc {
-                from: 0,
-                to: 0,
-                least: 0,
-                greatest: 0,
-            },
-        }
-    }
+impl Record for Synchronizer {
+    ghost numbered = { synchronizer_at };
 
-    // As `read`, where the image says how many there are: for a loop over the table.
-    pub fn of(bytes: &[u8], image: Image, i: u32) -> Arc
-        ensures { result ≡ arc_at bytes.now image.layout i }
-    {
-        let table = image.layout.arcs;
-        if i < image.arcs {
-            if place(table, Image::ARC_BYTES, image.arcs) <= bytes.len() {
-                return Arc::whole(bytes, place(table, Image::ARC_BYTES, i));
-            }
-        }
-        Arc::read(bytes, image.layout, i)
-    }
+    ghost lies = { λ bytes layout i. unfold synchronizer_at in refl };
+}
+
+impl Record for Arc {
+    ghost numbered = { arc_at };
+
+    ghost lies = { λ bytes layout i. unfold arc_at in refl };
 }

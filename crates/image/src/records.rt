@@ -1,11 +1,13 @@
 // One record of a table, at the byte where it starts. Past the end of the image every field reads 0.
-ghost use Rattle.std.specs.Prelude.{◌≡◌, ◌+◌, ◌≤◌, length};
+ghost use Rattle.std.specs.Prelude.{◌≡◌, ℕ, ◌+◌, ◌≤◌, List, length};
 ghost use Rattle.image.specs.Words.{word_at};
-ghost use Rattle.image.specs.Header.{synchronizer_bytes, arc_bytes};
+ghost use Rattle.image.specs.Header.{phase_bytes, synchronizer_bytes, arc_bytes};
 ghost use Rattle.image.specs.Records.{place_of, phase_from, synchronizer_from, arc_from};
+ghost use Rattle.image.specs.declared.header.Layout.{Layout};
+ghost use Rattle.image.specs.declared.header.Image.{Image};
 
 use crate::bytes::{fits, whole, word};
-use crate::header::Image;
+use crate::header::{Image, Layout};
 
 // When a phase closes, and how long it is active before that.
 #[derive(Clone, Copy)]
@@ -17,6 +19,7 @@ pub struct Phase {
 #[derive(Clone, Copy)]
 pub struct Synchronizer {
     pub phase: u32,
+    // The number of a `Kind`, or any other: `read` promises the word that stands there, on any bytes, before rule 7 judges it.
     pub kind: u32,
     pub setup: u32,
     pub hold: u32,
@@ -32,13 +35,6 @@ pub struct Arc {
     pub greatest: u32,
 }
 
-// The bytes that the fields of a record take. A layout may give a synchronizer's record more.
-pub(crate) const PHASE: usize = Image::PHASE_BYTES as usize;
-
-const SYNCHRONIZER: usize = Image::SYNCHRONIZER_BYTES as usize;
-
-pub(crate) const ARC: usize = Image::ARC_BYTES as usize;
-
 // The byte at which a record starts. Numbers of 32 bits leave room for the record's own bytes behind it.
 pub(crate) fn place(table: u32, size: u32, i: u32) -> usize
     ensures value { result ≡ place_of table size i }
@@ -48,6 +44,7 @@ pub(crate) fn place(table: u32, size: u32, i: u32) -> usize
 }
 
 // The field that stands k bytes into the record at a place.
+#[tactic(auto, using(crate::proofs::Words::word_past))]
 fn field(bytes: &[u8], at: usize, k: u8) -> u32
     ensures { result ≡ word_at bytes.now (at + k) }
 {
@@ -58,31 +55,110 @@ fn field(bytes: &[u8], at: usize, k: u8) -> u32
     }
 }
 
-impl Phase {
-    pub(crate) fn at(bytes: &[u8], at: usize) -> Phase
-        ensures { result ≡ phase_from bytes.now at }
+// A kind of record, as an image stores it: how its fields lie behind a byte, and where its table lies. The byte is a number, and no slice begins
+// there: it may lie past the end.
+pub trait Stored: Copy {
+    // The record that starts at a byte.
+    ghost from: { List ℕ → ℕ → Self };
+
+    ghost BYTES: { ℕ };
+
+    ghost table: { Layout → ℕ };
+
+    ghost size: { Layout → ℕ };
+
+    ghost count: { Image → ℕ };
+
+    // The bytes that the fields take. A layout may give a record more.
+    const BYTES: u32;
+
+    // At a place that has all its bytes.
+    fn whole(bytes: &[u8], at: usize) -> Self
+        requires { at + BYTES ≤ length bytes.now }
+        ensures { result ≡ from bytes.now at };
+
+    // At any place: field by field.
+    fn cut(bytes: &[u8], at: usize) -> Self
+        ensures { result ≡ from bytes.now at };
+
+    // Where the table starts.
+    fn table(layout: Layout) -> u32
+        ensures { result ≡ table layout };
+
+    // The bytes of a record, with what the layout gives it besides.
+    fn size(layout: Layout) -> u32
+        ensures { result ≡ size layout };
+
+    // How many there are.
+    fn count(image: Image) -> u32
+        ensures { result ≡ count image };
+
+    final fn at(bytes: &[u8], at: usize) -> Self
+        ensures { result ≡ from bytes.now at }
     {
-        if fits(at, PHASE, bytes.len()) {
-            Phase {
-                closing: whole(bytes, at),
-                active: whole(bytes, at + 4),
-            }
+        if fits(at, Self::BYTES as usize, bytes.len()) {
+            Self::whole(bytes, at)
         } else {
-            let s = Synchronizer::cut(bytes, at);
-            Phase {
-                closing: s.phase,
-                active: s.kind,
-            }
+            Self::cut(bytes, at)
         }
     }
 }
 
-impl Synchronizer {
-    // The synchronizer at a place that has all its bytes.
-    pub(crate) fn whole(bytes: &[u8], at: usize) -> Synchronizer
-        requires { at + synchronizer_bytes ≤ length bytes.now }
-        ensures { result ≡ synchronizer_from bytes.now at }
-    {
+impl Stored for Phase {
+    ghost from = { phase_from };
+
+    ghost BYTES = { phase_bytes };
+
+    ghost table = { λ layout. layout.phases };
+
+    ghost size = { λ _. phase_bytes };
+
+    ghost count = { λ image. image.phases };
+
+    const BYTES: u32 = Image::PHASE_BYTES;
+
+    fn whole(bytes: &[u8], at: usize) -> Phase {
+        Phase {
+            closing: whole(bytes, at),
+            active: whole(bytes, at + 4),
+        }
+    }
+
+    fn cut(bytes: &[u8], at: usize) -> Phase {
+        let s = Synchronizer::cut(bytes, at);
+        Phase {
+            closing: s.phase,
+            active: s.kind,
+        }
+    }
+
+    fn table(layout: Layout) -> u32 {
+        layout.phases
+    }
+
+    fn size(_layout: Layout) -> u32 {
+        Image::PHASE_BYTES
+    }
+
+    fn count(image: Image) -> u32 {
+        image.phases
+    }
+}
+
+impl Stored for Synchronizer {
+    ghost from = { synchronizer_from };
+
+    ghost BYTES = { synchronizer_bytes };
+
+    ghost table = { λ layout. layout.synchronizers };
+
+    ghost size = { λ layout. layout.synchronizer_bytes };
+
+    ghost count = { λ image. image.synchronizers };
+
+    const BYTES: u32 = Image::SYNCHRONIZER_BYTES;
+
+    fn whole(bytes: &[u8], at: usize) -> Synchronizer {
         Synchronizer {
             phase: whole(bytes, at),
             kind: whole(bytes, at + 4),
@@ -93,12 +169,9 @@ impl Synchronizer {
         }
     }
 
-    // The synchronizer at any place: field by field. Phases and arcs that the end of the image cuts off are read by it too, as the first two
-    // words and the first four. So it stands apart in the compiled code, and what is left of the others is small enough to vanish into their
-    // callers.
-    fn cut(bytes: &[u8], at: usize) -> Synchronizer
-        ensures { result ≡ synchronizer_from bytes.now at }
-    {
+    // Phases and arcs that the end of the image cuts off are read by this too, as the first two words and the first four. So it stands apart
+    // in the compiled code, and what is left of the others is small enough to vanish into their callers.
+    fn cut(bytes: &[u8], at: usize) -> Synchronizer {
         Synchronizer {
             phase: word(bytes, at),
             kind: field(bytes, at, 4),
@@ -109,23 +182,33 @@ impl Synchronizer {
         }
     }
 
-    pub(crate) fn at(bytes: &[u8], at: usize) -> Synchronizer
-        ensures { result ≡ synchronizer_from bytes.now at }
-    {
-        if fits(at, SYNCHRONIZER, bytes.len()) {
-            Synchronizer::whole(bytes, at)
-        } else {
-            Synchronizer::cut(bytes, at)
-        }
+    fn table(layout: Layout) -> u32 {
+        layout.synchronizers
+    }
+
+    fn size(layout: Layout) -> u32 {
+        layout.synchronizer_bytes
+    }
+
+    fn count(image: Image) -> u32 {
+        image.synchronizers
     }
 }
 
-impl Arc {
-    // The arc at a place that has all its bytes.
-    pub(crate) fn whole(bytes: &[u8], at: usize) -> Arc
-        requires { at + arc_bytes ≤ length bytes.now }
-        ensures { result ≡ arc_from bytes.now at }
-    {
+impl Stored for Arc {
+    ghost from = { arc_from };
+
+    ghost BYTES = { arc_bytes };
+
+    ghost table = { λ layout. layout.arcs };
+
+    ghost size = { λ _. arc_bytes };
+
+    ghost count = { λ image. image.arcs };
+
+    const BYTES: u32 = Image::ARC_BYTES;
+
+    fn whole(bytes: &[u8], at: usize) -> Arc {
         Arc {
             from: whole(bytes, at),
             to: whole(bytes, at + 4),
@@ -134,19 +217,25 @@ impl Arc {
         }
     }
 
-    pub(crate) fn at(bytes: &[u8], at: usize) -> Arc
-        ensures { result ≡ arc_from bytes.now at }
-    {
-        if fits(at, ARC, bytes.len()) {
-            Arc::whole(bytes, at)
-        } else {
-            let s = Synchronizer::cut(bytes, at);
-            Arc {
-                from: s.phase,
-                to: s.kind,
-                least: s.setup,
-                greatest: s.hold,
-            }
+    fn cut(bytes: &[u8], at: usize) -> Arc {
+        let s = Synchronizer::cut(bytes, at);
+        Arc {
+            from: s.phase,
+            to: s.kind,
+            least: s.setup,
+            greatest: s.hold,
         }
+    }
+
+    fn table(layout: Layout) -> u32 {
+        layout.arcs
+    }
+
+    fn size(_layout: Layout) -> u32 {
+        Image::ARC_BYTES
+    }
+
+    fn count(image: Image) -> u32 {
+        image.arcs
     }
 }

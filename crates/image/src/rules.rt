@@ -1,22 +1,16 @@
 // Rules 3 to 9 of docs/RULES.md, as tests. Each gives what the definition of the same name in specs/Rules.antt gives.
 // The tests of one rule are joined by `|` and `&`, which ask all of them: the code is then one expression, as the rule is.
-ghost use Rattle.std.specs.Prelude.{◌≡◌, true, ◌-◌};
-ghost use Rattle.image.specs.declared.rules.Rule.TheVariants.{Synchronizers, Arcs, Order};
+// Bytes and image stay two parameters. No plainer as a struct: each clause would say `self.now.bytes.now self.now.image` for `bytes.now image`.
+ghost use Rattle.std.specs.Prelude.{◌≡◌, ℕ, Bool, true, ◌-◌};
+ghost use Rattle.image.specs.declared.refusal.Rule.TheVariants.{Synchronizers, Arcs, Order};
 ghost use Rattle.image.specs.Rules.{bad_cycle, bad_counts, bad_layout, bad_phase, synchronizer_fails, bad_synchronizer};
-ghost use Rattle.image.specs.Rules.{arc_fails, bad_arc, bad_order, breaks_of, lowest_of};
+ghost use Rattle.image.specs.Rules.{arc_fails, bad_arc, bad_order, lowest_found};
 ghost use Rattle.image.specs.Inside.NoneBreaks.{NoneBreaks};
 
 use crate::header::{Header, Image, Part};
+use crate::kind::Kind;
+use crate::numbered::Record;
 use crate::records::{Arc, Phase, Synchronizer};
-
-// The rules that ask something of every record of a table.
-#[derive(Clone, Copy)]
-pub enum Rule {
-    Phases,
-    Synchronizers,
-    Arcs,
-    Order,
-}
 
 pub fn bad_cycle(header: Header) -> bool
     ensures { result ≡ bad_cycle header }
@@ -45,18 +39,12 @@ pub(crate) fn bad_layout(header: Header, length: u64) -> bool
         | (length != Image::offset(Part::End, k, l, m))
 }
 
-// The record before, and record 0 before itself.
-fn before(i: u32) -> u32
-    ensures { result ≡ i - 1 }
-{
-    if i == 0 { 0 } else { i - 1 }
-}
-
-fn bad_phase(bytes: &[u8], image: Image, i: u32) -> bool
+#[tactic(auto, unfolding(crate::specs::Rules::bad_phase))]
+pub(crate) fn bad_phase(bytes: &[u8], image: Image, i: u32) -> bool
     ensures { result ≡ bad_phase bytes.now image i }
 {
     let phase = Phase::read(bytes, image.layout, i);
-    let earlier = Phase::read(bytes, image.layout, before(i));
+    let earlier = Phase::read(bytes, image.layout, i.saturating_sub(1));
     (image.cycle < phase.active)
         | (image.cycle < phase.closing)
         | ((0 < i) & (phase.closing < earlier.closing))
@@ -68,14 +56,15 @@ fn bad_window(s: Synchronizer, image: Image) -> bool
     ensures { result ≡ synchronizer_fails image s }
 {
     (image.phases <= s.phase)
-        | (1 < s.kind)
+        | Kind::try_from(s.kind).is_err()
         | (image.cycle < s.setup)
         | (image.cycle < s.hold)
         | (s.greatest < s.least)
         | (Image::LONGEST_DELAY < s.greatest)
 }
 
-fn bad_synchronizer(bytes: &[u8], image: Image, i: u32) -> bool
+#[tactic(auto, unfolding(crate::specs::Rules::bad_synchronizer))]
+pub(crate) fn bad_synchronizer(bytes: &[u8], image: Image, i: u32) -> bool
     ensures { result ≡ bad_synchronizer bytes.now image i }
 {
     bad_window(Synchronizer::read(bytes, image.layout, i), image)
@@ -88,43 +77,28 @@ fn bad_fields(a: Arc, l: u32) -> bool
     (l <= a.from) | (l <= a.to) | (a.greatest < a.least) | (Image::LONGEST_DELAY < a.greatest)
 }
 
-fn bad_arc(bytes: &[u8], image: Image, i: u32) -> bool
+#[tactic(auto, unfolding(crate::specs::Rules::bad_arc))]
+pub(crate) fn bad_arc(bytes: &[u8], image: Image, i: u32) -> bool
     ensures { result ≡ bad_arc bytes.now image i }
 {
     bad_fields(Arc::read(bytes, image.layout, i), image.synchronizers)
 }
 
-fn bad_order(bytes: &[u8], image: Image, i: u32) -> bool
+#[tactic(auto, unfolding(crate::specs::Rules::bad_order))]
+pub(crate) fn bad_order(bytes: &[u8], image: Image, i: u32) -> bool
     ensures { result ≡ bad_order bytes.now image i }
 {
-    let a = Arc::read(bytes, image.layout, before(i));
-    let b = Arc::read(bytes, image.layout, i);
-    (0 < i) & !((a.to < b.to) | ((a.to == b.to) & (a.from < b.from)))
+    let arc = Arc::read(bytes, image.layout, i);
+    let earlier = Arc::read(bytes, image.layout, i.saturating_sub(1));
+    (0 < i) & ((arc.to, arc.from) <= (earlier.to, earlier.from))
 }
 
-fn breaks(bytes: &[u8], image: Image, rule: Rule, i: u32) -> bool
-    ensures { result ≡ breaks_of bytes.now image rule i }
+// The lowest number below a count that a test finds bad; none where it finds none bad.
+pub(crate) fn lowest<F: Fn(u32) -> bool>(count: u32, bad: F) -> Option<u32>
+    requires { F.IsAlwaysCallable bad }
+    ensures { (test : ℕ → Bool) → ((i : ℕ) (r : Bool) → F.post bad i r → r ≡ test i) → result ≡ lowest_found test count }
 {
-    match rule {
-        Rule::Phases => bad_phase(bytes, image, i),
-        Rule::Synchronizers => bad_synchronizer(bytes, image, i),
-        Rule::Arcs => bad_arc(bytes, image, i),
-        Rule::Order => bad_order(bytes, image, i),
-    }
-}
-
-// The lowest record that breaks a rule, or the count where none does.
-pub(crate) fn lowest(bytes: &[u8], image: Image, rule: Rule, count: u32) -> u32
-    ensures { result ≡ lowest_of (breaks_of bytes.now image rule) count }
-{
-    let mut i: u32 = 0;
-    while i < count {
-        if breaks(bytes, image, rule, i) {
-            return i;
-        }
-        i += 1;
-    }
-    i
+    (0..count).find(|&i| bad(i))
 }
 
 // Is it plain that no synchronizer breaks rule 7? A good image is told by this and `arcs_good`, with one look at each record. Where the
@@ -132,16 +106,7 @@ pub(crate) fn lowest(bytes: &[u8], image: Image, rule: Rule, count: u32) -> u32
 pub(crate) fn synchronizers_good(bytes: &[u8], image: Image) -> bool
     ensures { result ≡ true → NoneBreaks bytes.now image Synchronizers }
 {
-    let many = image.synchronizers;
-    let mut i: u32 = 0;
-    while i < many {
-        let s = Synchronizer::of(bytes, image, i);
-        if bad_window(s, image) {
-            return false;
-        }
-        i += 1;
-    }
-    true
+    (0..image.synchronizers).all(|i| !bad_window(Synchronizer::of(bytes, image, i), image))
 }
 
 // Is it plain that no arc breaks rule 8 or rule 9? Each arc is read once, and asked both. Of the arc before, its key is kept: one number,
@@ -149,17 +114,14 @@ pub(crate) fn synchronizers_good(bytes: &[u8], image: Image) -> bool
 pub(crate) fn arcs_good(bytes: &[u8], image: Image) -> bool
     ensures { result ≡ true → NoneBreaks bytes.now image Arcs × NoneBreaks bytes.now image Order }
 {
-    let count = image.arcs;
     let mut next: u64 = 0;
-    let mut i: u32 = 0;
-    while i < count {
+    for i in 0..image.arcs {
         let arc = Arc::of(bytes, image, i);
         let key = 4_294_967_296 * (arc.to as u64) + (arc.from as u64);
         if bad_fields(arc, image.synchronizers) | (key < next) {
             return false;
         }
         next = key + 1;
-        i += 1;
     }
     true
 }

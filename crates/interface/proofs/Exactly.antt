@@ -1,16 +1,19 @@
 -- What a field says of the circuit, each exactly. The cases of a promise exclude one another: a refused image is not good, a short buffer
 -- does not fit, and where late departures fit the equations no ring grows.
-use mathlib.Core.Path.{◌≡◌, refl, sym}
+use mathlib.Core.Path.{◌≡◌, refl, sym, ◌∙◌}
 use mathlib.Core.List.{List}
 use mathlib.Core.Logic.{◌↔◌}
+use Rattle.std.specs.Prelude.{Result, Ok, Err}
 use Prim.Native.Nat.{ℕ, ◌<◌}
 use native.Mathlib.Omega.{arith}
 use lib.IntN.{ℤ}
 use Rattle.image.specs.Checks.{check_of}
 use Rattle.image.specs.Valid.{Valid, image_in}
-use Rattle.image.specs.declared.checks.Checked.{Checked}
-use Rattle.image.specs.declared.checks.Checked.TheVariants as check
+use Rattle.image.specs.declared.header.Image.{Image}
+use Rattle.image.specs.declared.refusal.Refusal.{Refusal}
+use Rattle.image.proofs.RuleNumbers.{numbers_from_1_to_16}
 use Rattle.image.proofs.Validity.{accepts, accepted_is}
+use Rattle.image.proofs.Alike.{err_is_not_ok}
 use Rattle.flow.specs.Flow.{late}
 use Rattle.flow.specs.Walk.{GrowingRing}
 use Rattle.flow.proofs.Walks.{fits_calm}
@@ -19,7 +22,6 @@ use Rattle.circuit.specs.Clock.{flow}
 use Rattle.circuit.proofs.Sound.{sound, good}
 use Rattle.timing.specs.TimingPromise.{Served, Timing, refused, few_numbers, few_arcs, growing, timed}
 use Rattle.timing.specs.declared.timing_call.Answer.{Answer}
-use Rattle.report.proofs.Refusals.{refused_small}
 use Rattle.interface.specs.Answers.{check_answer, timing_answer}
 use Rattle.interface.specs.Promise.{CheckForC, TimingForC}
 use Rattle.interface.specs.declared.check_answer.CheckAnswer.{CheckAnswer}
@@ -27,23 +29,23 @@ use Rattle.interface.specs.declared.timing_answer.TimingAnswer.{TimingAnswer}
 use Rattle.interface.proofs.Reading.{shown_some}
 
 module _ (bytes : List ℕ) where
-  not_both : {rule culprit : ℕ} → check_of bytes ≡ check.Refused rule culprit → check_of bytes ≡ check.Good (image_in bytes) → ⊥
-  not_both r g = let z : ◌≡◌ {A = ℕ} 0 1 = cc in omega arith
+  not_both : {why : Refusal} → check_of bytes ≡ Err why → check_of bytes ≡ Ok (image_in bytes) → ⊥
+  not_both r g = err_is_not_ok (sym r ∙ g)
 
-  accepted : (X : Checked) → X ≡ check_of bytes → ((check_answer X).refusal ≡ 0) ↔ Valid bytes
-  accepted (check.Refused rule culprit) e =
-      let some = (refused_small rule culprit bytes (sym e)).0 in
+  accepted : (X : Result Image Refusal) → X ≡ check_of bytes → ((check_answer X).refusal ≡ 0) ↔ Valid bytes
+  accepted (Err why) e =
+      let some = (numbers_from_1_to_16 why.rule).0 in
       (λ z. let k : ⊥ = omega (arith, some) in absurd k, λ v. absurd (not_both (sym e) ((accepts bytes).0 v)))
-  accepted (check.Good image) e = (λ z. (accepts bytes).1 (rw (accepted_is bytes image (sym e)) at (sym e)), λ v. refl)
+  accepted (Ok image) e = (λ z. (accepts bytes).1 (rw (accepted_is bytes image (sym e)) at (sym e)), λ v. refl)
 
   -- check: 0 for a valid image and for no other
   pub accepted_exactly : {given : CheckAnswer} → CheckForC bytes given → (given.refusal ≡ 0) ↔ Valid bytes
   accepted_exactly c = rw c.told (accepted c.answer c.kept)
 
   module _ {numbers : List ℤ} {arcs : List ℕ} where
-    served : {X : Answer} {R : List ℤ} {A : List ℕ} → Timing bytes numbers arcs X R A → ((timing_answer X).refusal ≡ 0) ↔ Served bytes numbers arcs
-    served (refused {rule} {culprit} e) =
-        let some = (refused_small rule culprit bytes e).0 in
+    served : {X : Result Answer Refusal} {R : List ℤ} {A : List ℕ} → Timing bytes numbers arcs X R A → ((timing_answer X).refusal ≡ 0) ↔ Served bytes numbers arcs
+    served (refused {why} e) =
+        let some = (numbers_from_1_to_16 why.rule).0 in
         (λ z. let k : ⊥ = omega (arith, some) in absurd k, λ s. absurd (not_both e s.good))
     served (few_numbers ok h) = (λ z. let k : ⊥ = omega arith in absurd k, λ s. let k : ⊥ = omega (arith, s.numbers_fit) in absurd k)
     served (few_arcs ok fit h) = (λ z. let k : ⊥ = omega arith in absurd k, λ s. let k : ⊥ = omega (arith, s.arcs_fit) in absurd k)
@@ -55,7 +57,7 @@ module _ (bytes : List ℕ) where
         (given.refusal ≡ 0) ↔ Served bytes numbers arcs
     served_exactly c = rw c.told (served c.kept)
 
-    looped : {X : Answer} {R : List ℤ} {A : List ℕ} → Timing bytes numbers arcs X R A →
+    looped : {X : Result Answer Refusal} {R : List ℤ} {A : List ℕ} → Timing bytes numbers arcs X R A →
         (0 < (timing_answer X).loop_arcs) ↔ (Served bytes numbers arcs × GrowingRing (flow late (circuit_of bytes)))
     looped (refused e) = (λ z. let k : ⊥ = omega arith in absurd k, λ g. absurd (not_both e g.0.good))
     looped (few_numbers ok h) = (λ z. let k : ⊥ = omega arith in absurd k, λ g. let k : ⊥ = omega (arith, g.0.numbers_fit) in absurd k)

@@ -3,6 +3,7 @@
 use mathlib.Core.Path.{◌≡◌, sym, ap, ◌∙◌}
 use mathlib.Core.List.{List}
 use mathlib.Core.Logic.{◌⊎◌, inl, inr}
+use Rattle.std.specs.Prelude.{Ok}
 use Prim.Native.Nat.{ℕ}
 use lib.IntN.{ℤ}
 use Rattle.image.proofs.OneOutcome.{check_only}
@@ -29,8 +30,8 @@ pub record SameForC (x y : TimingAnswer) (R S : List ℤ) (A B : List ℕ) : Typ
 
 -- both show a growing loop, and both leave the result buffer alike
 pub record BothGrowForC (x y : TimingAnswer) (R S : List ℤ) : Type 0 where
-  pub one : (n : ℕ) × (g : ℤ) × (x ≡ timing_answer (Growing n g))
-  pub other : (n : ℕ) × (g : ℤ) × (y ≡ timing_answer (Growing n g))
+  pub one : (n : ℕ) × (g : ℤ) × (x ≡ timing_answer (Ok (Growing n g)))
+  pub other : (n : ℕ) × (g : ℤ) × (y ≡ timing_answer (Ok (Growing n g)))
   pub numbers : R ≡ S
 
 module _ (bytes : List ℕ) (numbers : List ℤ) (arcs : List ℕ) where

@@ -3,6 +3,7 @@
 use mathlib.Core.Path.{◌≡◌, refl, sym, ◌∙◌}
 use mathlib.Core.Bool.{Bool, true, false}
 use mathlib.Core.List.{List}
+use Rattle.std.specs.Prelude.{Result, Ok, Err}
 use Prim.Native.Nat.{ℕ, ◌<◌}
 use native.Mathlib.Omega.{arith}
 use lib.Dec.{ltb}
@@ -10,8 +11,10 @@ use lib.IntN.{ℤ}
 use borrow.Author.Tests.{lt-ltb}
 use Rattle.image.specs.Header.{offset_of}
 use Rattle.image.specs.Checks.{check_of}
-use Rattle.image.specs.declared.checks.Checked.{Checked}
-use Rattle.image.specs.declared.checks.Checked.TheVariants as check
+use Rattle.image.specs.Refusal.{number_of, refusal}
+use Rattle.image.specs.declared.header.Image.{Image}
+use Rattle.image.specs.declared.refusal.Refusal.{Refusal}
+use Rattle.image.proofs.RuleNumbers.{rule_of, rule_back, numbers_from_1_to_16}
 use Rattle.image.specs.declared.header.Part.TheVariants.{Phases, Synchronizers, Arcs}
 use Rattle.image.proofs.Validity.{accepts, accepted_is}
 use Rattle.flow.specs.Walk.{Shown}
@@ -19,13 +22,8 @@ use Rattle.timing.specs.TimingPromise.{Timing, refused, few_numbers, few_arcs, g
 use Rattle.timing.specs.PathPromise as asked
 use Rattle.timing.specs.declared.timing_call.Answer.{Answer}
 use Rattle.timing.specs.declared.timing_call.Answer.TheVariants as timing
-use Rattle.timing.specs.declared.path_call.Way.{Way}
-use Rattle.timing.specs.declared.path_call.Way.TheVariants as path
-use Rattle.report.proofs.Refusals.{refused_small}
-use Rattle.grammar.specs.Layout.{image_from}
+use Rattle.timing.specs.declared.trail.Path.{Path}
 use Rattle.text.specs.TextPromise as written
-use Rattle.text.specs.declared.text_call.Made.{Made}
-use Rattle.text.specs.declared.text_call.Made.TheVariants as text
 use Rattle.interface.specs.Answers.{check_answer, timing_answer, path_answer, text_answer}
 use Rattle.interface.specs.Promise.{CheckForC, TimingForC, PathForC, TextForC}
 use Rattle.interface.specs.declared.check_answer.CheckAnswer.{CheckAnswer}
@@ -38,11 +36,15 @@ abbrev either : {A : Type 0} → Bool → A → A → A
 either true a b = a
 either false a b = b
 
+-- a refusal, from its number and its record
+abbrev read_refusal : ℕ → ℕ → Refusal
+read_refusal number culprit = refusal (rule_of number) culprit
+
 -- as a C program reads them
-abbrev pub read_check : CheckAnswer → Checked
+abbrev pub read_check : CheckAnswer → Result Image Refusal
 read_check a =
-    either (ltb 0 a.refusal) (check.Refused a.refusal a.«record»)
-    (check.Good (record {
+    either (ltb 0 a.refusal) (Err (read_refusal a.refusal a.«record»))
+    (Ok (record {
       cycle = a.cycle;
       phases = a.phases;
       synchronizers = a.synchronizers;
@@ -55,26 +57,30 @@ read_check a =
       };
     }))
 
-abbrev pub read_timing : TimingAnswer → Answer
+abbrev pub read_timing : TimingAnswer → Result Answer Refusal
 read_timing a =
-    either (ltb 0 a.refusal) (timing.Refused a.refusal a.«record»)
-    (either (ltb 0 a.loop_arcs) (timing.Growing a.loop_arcs a.gain)
-    (timing.Timed a.missed_setups a.missed_holds))
+    either (ltb 0 a.refusal) (Err (read_refusal a.refusal a.«record»))
+    (either (ltb 0 a.loop_arcs) (Ok (timing.Growing a.loop_arcs a.gain))
+    (Ok (timing.Timed a.missed_setups a.missed_holds)))
 
-abbrev pub read_path : PathAnswer → Way
-read_path a = either (ltb 0 a.refusal) (path.Refused a.refusal a.«record») (path.Found a.launch a.arcs)
+abbrev pub read_path : PathAnswer → Result Path Refusal
+read_path a = either (ltb 0 a.refusal) (Err (read_refusal a.refusal a.«record»)) (Ok (record { launch = a.launch; count = a.arcs }))
 
-abbrev pub read_text : TextAnswer → Made
-read_text a = either (ltb 0 a.refusal) (text.Refused a.refusal a.«record») (text.Image a.image_bytes)
+abbrev pub read_text : TextAnswer → Result ℕ Refusal
+read_text a = either (ltb 0 a.refusal) (Err (read_refusal a.refusal a.«record»)) (Ok a.image_bytes)
+
+-- a refusal's number is above 0
+some : (why : Refusal) → ltb 0 (number_of why.rule) ≡ true
+some why = lt-ltb 0 (number_of why.rule) (numbers_from_1_to_16 why.rule).0
 
 -- a ring that is shown has an arc
 pub shown_some : {f : _} {count : ℕ} {total : ℤ} {before after : List ℕ} → Shown f count total before after → 0 < count
 shown_some s = omega (arith, s.counted, s.grows.ring.some)
 
 module _ (bytes : List ℕ) where
-  check_back : (X : Checked) → X ≡ check_of bytes → read_check (check_answer X) ≡ X
-  check_back (check.Refused rule culprit) e = rw (lt-ltb 0 rule (refused_small rule culprit bytes (sym e)).0)
-  check_back (check.Good image) e =
+  check_back : (X : Result Image Refusal) → X ≡ check_of bytes → read_check (check_answer X) ≡ X
+  check_back (Err why) e = rw (some why, rule_back why.rule)
+  check_back (Ok image) e =
       let same = accepted_is bytes image (sym e) in
       let v = (accepts bytes).1 (rw same at (sym e)) in
       rw (same, v.phase_table, v.synchronizer_table, v.arc_table)
@@ -83,8 +89,8 @@ module _ (bytes : List ℕ) where
   check_read c = rw c.told (check_back c.answer c.kept)
 
   module _ {numbers : List ℤ} {arcs : List ℕ} where
-    timing_back : {X : Answer} {R : List ℤ} {A : List ℕ} → Timing bytes numbers arcs X R A → read_timing (timing_answer X) ≡ X
-    timing_back (refused {rule} {culprit} e) = rw (lt-ltb 0 rule (refused_small rule culprit bytes e).0)
+    timing_back : {X : Result Answer Refusal} {R : List ℤ} {A : List ℕ} → Timing bytes numbers arcs X R A → read_timing (timing_answer X) ≡ X
+    timing_back (refused {why} e) = rw (some why, rule_back why.rule)
     timing_back (few_numbers ok h) = refl
     timing_back (few_arcs ok fit h) = refl
     timing_back (growing {count} s ring) = rw (lt-ltb 0 count (shown_some ring))
@@ -94,8 +100,8 @@ module _ (bytes : List ℕ) where
     timing_read c = rw c.told (timing_back c.kept)
 
   module _ {i : ℕ} {arcs : List ℕ} where
-    path_back : {X : Way} {A : List ℕ} → asked.PathCall bytes i arcs X A → read_path (path_answer X) ≡ X
-    path_back (asked.refused {rule} {culprit} e) = rw (lt-ltb 0 rule (refused_small rule culprit bytes e).0)
+    path_back : {X : Result Path Refusal} {A : List ℕ} → asked.PathCall bytes i arcs X A → read_path (path_answer X) ≡ X
+    path_back (asked.refused {why} e) = rw (some why, rule_back why.rule)
     path_back (asked.few_arcs ok h) = refl
     path_back (asked.no_such ok room h) = refl
     path_back (asked.unentered q h) = refl
@@ -105,9 +111,9 @@ module _ (bytes : List ℕ) where
     pub path_read : {given : PathAnswer} {A : List ℕ} (c : PathForC bytes i arcs given A) → read_path given ≡ c.answer
     path_read c = rw c.told (path_back c.kept)
 
-text_back : {words before after : List ℕ} {X : Made} → written.TextCall words before X after → read_text (text_answer X) ≡ X
+text_back : {words before after : List ℕ} {X : Result ℕ Refusal} → written.TextCall words before X after → read_text (text_answer X) ≡ X
 text_back (written.faulty f) = refl
-text_back (written.refused {lines} {rule} {culprit} r e) = rw (lt-ltb 0 rule (refused_small rule culprit (image_from lines) e).0)
+text_back (written.refused {why = why} r e) = rw (some why, rule_back why.rule)
 text_back (written.short r p l) = refl
 text_back (written.made r p l) = refl
 

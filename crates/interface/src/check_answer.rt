@@ -2,11 +2,11 @@
 ghost use Rattle.std.specs.Prelude.{◌≡◌};
 ghost use Rattle.interface.specs.Answers.{check_answer};
 
-use image::Checked;
+use image::{Image, Refusal};
 
 // Refusal 0 and the image's numbers; or the number of refusal and the record at fault.
 #[repr(C)]
-#[derive(Clone, Copy)]
+#[derive(Clone, Copy, Default)]
 pub struct CheckAnswer {
     pub refusal: u32,
     pub record: u32,
@@ -16,26 +16,24 @@ pub struct CheckAnswer {
     pub arcs: u32,
 }
 
-// The struct that an answer becomes.
-pub(crate) fn check_answer(answer: Checked) -> CheckAnswer
-    ensures { result ≡ check_answer answer }
-{
-    match answer {
-        Checked::Good(image) => CheckAnswer {
-            refusal: 0,
-            record: 0,
-            cycle: image.cycle,
-            phases: image.phases,
-            synchronizers: image.synchronizers,
-            arcs: image.arcs,
-        },
-        Checked::Refused(rule, culprit) => CheckAnswer {
-            refusal: rule,
-            record: culprit,
-            cycle: 0,
-            phases: 0,
-            synchronizers: 0,
-            arcs: 0,
-        },
+impl From<Result<Image, Refusal>> for CheckAnswer {
+    ghost from_gives = { λ answer given. given ≡ check_answer answer };
+
+    fn from(answer: Result<Image, Refusal>) -> CheckAnswer {
+        match answer {
+            Ok(image) => CheckAnswer {
+                refusal: 0,
+                record: 0,
+                cycle: image.cycle,
+                phases: image.phases,
+                synchronizers: image.synchronizers,
+                arcs: image.arcs,
+            },
+            Err(refusal) => CheckAnswer {
+                refusal: refusal.rule.number(),
+                record: refusal.record,
+                ..CheckAnswer::default()
+            },
+        }
     }
 }

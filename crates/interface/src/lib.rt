@@ -1,5 +1,5 @@
 // The C interface: the five calls of this library as functions that C can call, with answers that C can read. Each calls the Rattle call of
-// the same name and turns its answer, an enum, into a struct of numbers. None has a condition, and none keeps anything.
+// the same name and turns its answer, a `Result`, into a struct of numbers. None has a condition, and none keeps anything.
 #![tactic(auto)]
 
 mod calls;

@@ -2,11 +2,12 @@
 ghost use Rattle.std.specs.Prelude.{◌≡◌};
 ghost use Rattle.interface.specs.Answers.{path_answer};
 
-use timing::Way;
+use image::Refusal;
+use timing::Path;
 
 // Refusal 0, where the path starts and how many arcs it has.
 #[repr(C)]
-#[derive(Clone, Copy)]
+#[derive(Clone, Copy, Default)]
 pub struct PathAnswer {
     pub refusal: u32,
     pub record: u32,
@@ -14,22 +15,22 @@ pub struct PathAnswer {
     pub arcs: u32,
 }
 
-// The struct that an answer becomes.
-pub(crate) fn path_answer(answer: Way) -> PathAnswer
-    ensures { result ≡ path_answer answer }
-{
-    match answer {
-        Way::Refused(rule, culprit) => PathAnswer {
-            refusal: rule,
-            record: culprit,
-            launch: 0,
-            arcs: 0,
-        },
-        Way::Found(launch, count) => PathAnswer {
-            refusal: 0,
-            record: 0,
-            launch: launch,
-            arcs: count,
-        },
+impl From<Result<Path, Refusal>> for PathAnswer {
+    ghost from_gives = { λ answer given. given ≡ path_answer answer };
+
+    fn from(answer: Result<Path, Refusal>) -> PathAnswer {
+        match answer {
+            Ok(path) => PathAnswer {
+                refusal: 0,
+                record: 0,
+                launch: path.launch,
+                arcs: path.count,
+            },
+            Err(refusal) => PathAnswer {
+                refusal: refusal.rule.number(),
+                record: refusal.record,
+                ..PathAnswer::default()
+            },
+        }
     }
 }

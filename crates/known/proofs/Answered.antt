@@ -1,7 +1,8 @@
 -- The promises of the calls, at the known circuits: they leave no other answer than the known one, since the known one keeps them.
-use mathlib.Core.Path.{◌≡◌, refl, ap, ◌∙◌}
+use mathlib.Core.Path.{◌≡◌, refl, sym, ap, ◌∙◌}
 use mathlib.Core.List.{List, [], ◌∷◌, ◌++◌}
 use mathlib.Core.Logic.{inl, inr}
+use Rattle.std.specs.Prelude.{Result, Ok}
 use Prim.Native.Nat.{ℕ, ◌*◌, ◌≤◌}
 use Prim.Native.String.{String}
 use native.Mathlib.Omega.{arith}
@@ -9,8 +10,9 @@ use lib.IntN.{ℤ, pos}
 use lib.ListN.{length, drop, length-replicate}
 use Rattle.image.specs.Checks.{check_of}
 use Rattle.image.specs.Valid.{image_in}
-use Rattle.image.specs.declared.checks.Checked.TheVariants.{Good}
+use Rattle.image.specs.declared.refusal.Refusal.{Refusal}
 use Rattle.image.proofs.Validity.{accepts}
+use Rattle.image.proofs.Alike.{err_is_not_ok}
 use Rattle.flow.specs.Flow.{late}
 use Rattle.flow.proofs.Path.{path_walk}
 use Rattle.circuit.specs.Circuit.{circuit_of}
@@ -30,14 +32,14 @@ use Rattle.known.specs.Holds.{Timed, Grows, Comes, Holds, AllOf}
 use Rattle.known.specs.Answers.{TimingLeaves, Prints, CallsGive, Answers}
 use Rattle.known.proofs.Known.{known_holds}
 
-module _ (bytes : List ℕ) (accepted : check_of bytes ≡ Good (image_in bytes)) where
+module _ (bytes : List ℕ) (accepted : check_of bytes ≡ Ok (image_in bytes)) where
   served : (numbers : List ℤ) (arcs : List ℕ) → 6 * (circuit_of bytes).synchronizers ≤ length numbers → (circuit_of bytes).synchronizers ≤ length arcs →
       Served bytes numbers arcs
   served numbers arcs fit room = record { good = accepted; numbers_fit = fit; arcs_fit = room }
 
   times : (results : List ℤ) (setups holds : ℕ) (text : String) → Timed (circuit_of bytes) results setups holds text →
       TimingLeaves bytes (λ numbers arcs X R A.
-      (X ≡ answer.Timed setups holds) × (R ≡ results ++ drop (6 * (circuit_of bytes).synchronizers) numbers) × (A ≡ arcs))
+      (X ≡ Ok (answer.Timed setups holds)) × (R ≡ results ++ drop (6 * (circuit_of bytes).synchronizers) numbers) × (A ≡ arcs))
   times results setups holds text h numbers arcs fit room X R A x =
       elim (timing_only bytes numbers arcs x (promise.timed h.soonest h.latest (served numbers arcs fit room) h.times)) [
         | inl s ↦ (
@@ -50,12 +52,12 @@ module _ (bytes : List ℕ) (accepted : check_of bytes ≡ Good (image_in bytes)
 
   -- the ring that is shown is the only one
   shows : (ring : List ℕ) (total : ℤ) (text : String) → Grows (circuit_of bytes) ring total text →
-      TimingLeaves bytes (λ numbers arcs X R A. (X ≡ answer.Growing (length ring) total) × (R ≡ numbers) × (A ≡ ring ++ drop (length ring) arcs))
+      TimingLeaves bytes (λ numbers arcs X R A. (X ≡ Ok (answer.Growing (length ring) total)) × (R ≡ numbers) × (A ≡ ring ++ drop (length ring) arcs))
   shows ring total text h numbers arcs fit room X R A x = go x
     where
-      go : {X : Answer} {R : List ℤ} {A : List ℕ} → Timing bytes numbers arcs X R A →
-          (X ≡ answer.Growing (length ring) total) × (R ≡ numbers) × (A ≡ ring ++ drop (length ring) arcs)
-      go (promise.refused e) = let z : ◌≡◌ {A = ℕ} 0 1 = cc in let y : ⊥ = omega arith in absurd y
+      go : {X : Result Answer Refusal} {R : List ℤ} {A : List ℕ} → Timing bytes numbers arcs X R A →
+          (X ≡ Ok (answer.Growing (length ring) total)) × (R ≡ numbers) × (A ≡ ring ++ drop (length ring) arcs)
+      go (promise.refused e) = absurd (err_is_not_ok (sym e ∙ accepted))
       go (promise.few_numbers ok l) = let z : ⊥ = omega arith in absurd z
       go (promise.few_arcs ok k l) = let z : ⊥ = omega arith in absurd z
       go (promise.growing {count} {gain = total'} {shown} s k) =
@@ -64,8 +66,8 @@ module _ (bytes : List ℕ) (accepted : check_of bytes ≡ Good (image_in bytes)
       go (promise.timed E D s t) = absurd (h.never D t.late.fits)
 
   -- the report's own buffers are long enough
-  prints : (X : Answer) (R : List ℤ) (A : List ℕ) (text : String) →
-      ((Y : Answer) (S : List ℤ) (B : List ℕ) → Timing bytes zeros no_arcs Y S B → (Y ≡ X) × (S ≡ R) × (B ≡ A)) →
+  prints : (X : Result Answer Refusal) (R : List ℤ) (A : List ℕ) (text : String) →
+      ((Y : Result Answer Refusal) (S : List ℤ) (B : List ℕ) → Timing bytes zeros no_arcs Y S B → (Y ≡ X) × (S ≡ R) × (B ≡ A)) →
       report_of bytes X R A ≡ ascii text → Prints bytes text
   prints X R A text only e before size after r =
       let k = only r.answer r.numbers r.arcs r.told in

@@ -3,6 +3,7 @@
 use mathlib.Core.Path.{◌≡◌, refl}
 use mathlib.Core.Bool.{true}
 use mathlib.Core.List.{List, [], ◌∷◌, ◌++◌}
+use Rattle.std.specs.Prelude.{Result, Ok, Err}
 use Prim.Native.Nat.{ℕ, suc, pred, ◌*◌}
 use Prim.Native.String.{String}
 use native.Mathlib.Omega.{arith}
@@ -11,8 +12,7 @@ use lib.ListN.{length, drop}
 use Rattle.image.specs.Checks.{check_of}
 use Rattle.image.specs.Valid.{Valid}
 use Rattle.image.specs.declared.header.Image.{Image}
-use Rattle.image.specs.declared.checks.Checked.{Checked}
-use Rattle.image.specs.declared.checks.Checked.TheVariants.{Good, Refused}
+use Rattle.image.specs.declared.refusal.Refusal.{Refusal}
 use Rattle.image.proofs.Validity.{passed, valid, accepts}
 use Rattle.flow.specs.Flow.{Flow, Side, late, early}
 use Rattle.flow.specs.Inside.Rounds.{round, Settled}
@@ -34,9 +34,9 @@ use Rattle.known.proofs.Rings.{lonely}
 use Rattle.known.proofs.Checks.{Check, given, always, never, ◌and◌, less, at_most, equal, less_ℤ, equal_ℤ, is_true, equals, every, distinct, below}
 
 -- an answer that accepts
-abbrev answered : (answer : Checked) → Check ((x : Image) × (answer ≡ Good x))
-answered (Good x) = record { test = true; sound = λ t. (x, refl) }
-answered (Refused rule culprit) = never
+abbrev answered : (answer : Result Image Refusal) → Check ((x : Image) × (answer ≡ Ok x))
+answered (Ok x) = record { test = true; sound = λ t. (x, refl) }
+answered (Err why) = never
 
 abbrev pub acceptance : (bytes : List ℕ) → Check (Valid bytes)
 acceptance bytes = given (λ h. valid bytes (passed bytes h.0 h.1)) (answered (check_of bytes))
@@ -69,7 +69,7 @@ timing c numbers setups holds text =
     and equals equal_ℤ (results c E D c.synchronizers) numbers
     and equal (missed_setups c D) setups
     and equal (missed_holds c E) holds
-    and equals equal (text_of c.synchronizers (answer.Timed setups holds) (numbers ++ drop (6 * c.synchronizers) zeros) no_arcs) (ascii text))
+    and equals equal (text_of c.synchronizers (Ok (answer.Timed setups holds)) (numbers ++ drop (6 * c.synchronizers) zeros) no_arcs) (ascii text))
 
 -- the arcs lead from i to j, from latch to latch
 abbrev pub walking : (f : Flow) (i : ℕ) (p : List ℕ) (j : ℕ) → Check (Walk f i p j)
@@ -105,7 +105,7 @@ growth c (a ∷ p) total text =
     and every (at_most i) (sources f (a ∷ p))
     and equal_ℤ (gain f (a ∷ p)) total
     and lonely f (a ∷ p)
-    and equals equal (text_of c.synchronizers (answer.Growing (length (a ∷ p)) total) zeros ((a ∷ p) ++ drop (length (a ∷ p)) no_arcs)) (ascii text))
+    and equals equal (text_of c.synchronizers (Ok (answer.Growing (length (a ∷ p)) total)) zeros ((a ∷ p) ++ drop (length (a ∷ p)) no_arcs)) (ascii text))
 
 -- the path, by the departures that the rounds settle at
 abbrev leading : (c : Circuit) (i s : ℕ) (arcs : List ℕ) → Check (Sound c → CameOver c i s arcs)

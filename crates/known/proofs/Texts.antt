@@ -3,23 +3,22 @@ use mathlib.Core.Path.{◌≡◌, refl, ap, subst, ◌∙◌}
 use mathlib.Core.Bool.{true}
 use mathlib.Core.List.{List, [], ◌∷◌, ◌++◌}
 use mathlib.Core.Logic.{inl}
-use Prim.Native.Nat.{ℕ, ◌≤◌, ◌<◌}
+use Prim.Native.Nat.{ℕ, ◌≤◌}
 use Prim.Native.String.{String}
 use native.Mathlib.Omega.{arith}
-use lib.Dec.{lit<, lit≤}
+use lib.Dec.{lit≤}
 use lib.ListN.{length, drop}
+use Rattle.std.specs.Prelude.{None, Ok}
 use Rattle.image.specs.Checks.{check_of}
 use Rattle.image.specs.Valid.{image_in}
-use Rattle.image.specs.declared.checks.Checked.TheVariants.{Good}
 use Rattle.grammar.specs.Text.{longest_text, Begins, start, Reads, Stops, at_line}
 use Rattle.grammar.specs.Layout.{image_from}
 use Rattle.grammar.specs.declared.read.Line.TheVariants.{Cycle, Phase, Synchronizer, Arc}
 use Rattle.grammar.specs.declared.read.Read.{Read}
-use Rattle.grammar.specs.Inside.Reader.{lost, line_at}
+use Rattle.grammar.specs.Inside.Reader.{line_at}
 use Rattle.grammar.proofs.Computed.{reading, said, Found, fit, begun, none_stands}
 use Rattle.report.specs.Ascii.{ascii}
 use Rattle.text.specs.TextPromise.{faulty, made}
-use Rattle.text.specs.declared.text_call.Made.TheVariants as answer
 use Rattle.text.proofs.OneOutcome.{text_one}
 use Rattle.known.specs.Circuits.{p1, known}
 use Rattle.known.proofs.Known.{known_holds}
@@ -54,7 +53,7 @@ ring_image : (sixth seventh : ℕ) → image_from (said (ring_lines sixth sevent
 unfolding image_from p1
 ring_image sixth seventh = refl
 
-p1_good : check_of p1 ≡ Good (image_in p1)
+p1_good : check_of p1 ≡ Ok (image_in p1)
 unfolding known
 p1_good = known_holds.0.accepted
 
@@ -63,21 +62,21 @@ makes : (text : String) (sixth seventh : ℕ) → length (ascii text) ≤ longes
     fit 0 (ring_lines sixth seventh) ≡ true → drop seventh (ascii text) ≡ [] → MakesImage text p1
 makes text sixth seventh short found placed end before long X after call =
     let lines = said (ring_lines sixth seventh) in
-    let b = begun (ascii text) short (ring_lines sixth seventh) 0 0 [] start found placed in
+    let b = begun (ascii text) (ring_lines sixth seventh) 0 0 [] start found placed in
     let reads : Reads (ascii text) lines = record { short = short; stage = 3; begun = lit≤ tt; whole = subst (Begins (ascii text) 3 lines) end b } in
-    let good : check_of (image_from lines) ≡ Good (image_in p1) = ap check_of (ring_image sixth seventh) ∙ p1_good in
+    let good : check_of (image_from lines) ≡ Ok (image_in p1) = ap check_of (ring_image sixth seventh) ∙ p1_good in
     let same = ap length (ring_image sixth seventh) in
     let out = text_one call (made reads good (omega (arith, same, long))) in
-    (out.0 ∙ ap answer.Image same, out.1 ∙ ap (λ (i : List ℕ). i ++ drop (length i) before) (ring_image sixth seventh))
+    (out.0 ∙ ap Ok same, out.1 ∙ ap (λ (i : List ℕ). i ++ drop (length i) before) (ring_image sixth seventh))
 
 -- ---- the bad line
 bad_found : Found (ascii bad_text) 0 start_of_ring
 unfolding reading
 bad_found = (refl, (refl, (refl, tt)))
 
-bad_lost : (line_at (ascii bad_text) 32).next ≡ lost
+bad_none : line_at (ascii bad_text) 32 ≡ None
 unfolding reading
-bad_lost = refl
+bad_none = refl
 
 refuses : RefusedFor bad_text 3
 refuses before X after call =
@@ -88,10 +87,10 @@ refuses before X after call =
       stage = 1;
       lines = said start_of_ring;
       rest = drop 32 text;
-      before = begun text short start_of_ring 0 0 [] start bad_found refl;
+      before = begun text start_of_ring 0 0 [] start bad_found refl;
       count = refl;
       unfinished = inl (λ e. let long = ap length e in omega (arith, long));
-      stuck = none_stands text short 32 1 (lit< tt) bad_lost;
+      stuck = none_stands text 32 1 bad_none;
     } in
     text_one call (faulty (at_line stops))
 

@@ -1,9 +1,8 @@
 -- What it means that an image has the outcome that is known of it, by the definitions of the circuit and its times.
-use Rattle.std.specs.Prelude.{◌≡◌, List, [], ◌∷◌, ◌++◌, ℕ, ◌*◌, ◌≤◌, ℤ, length, drop}
+use Rattle.std.specs.Prelude.{◌≡◌, List, [], ◌∷◌, ◌++◌, ℕ, ◌*◌, ◌≤◌, ℤ, length, drop, Ok}
 use Prim.Native.String.{String}
 use Rattle.image.specs.Checks.{check_of}
 use Rattle.image.specs.Valid.{image_in}
-use Rattle.image.specs.declared.checks.Checked.TheVariants.{Good}
 use Rattle.flow.specs.Flow.{late, Least}
 use Rattle.flow.specs.Walk as walk
 use Rattle.flow.specs.Walk.{Ring, GrowingRing, sources, gain}
@@ -25,7 +24,7 @@ pub record Timed (c : Circuit) (numbers : List ℤ) (setups holds : ℕ) (text :
   pub gives : results c soonest latest c.synchronizers ≡ numbers
   pub setups_missed : missed_setups c latest ≡ setups
   pub holds_missed : missed_holds c soonest ≡ holds
-  pub prints : text_of c.synchronizers (answer.Timed setups holds) (numbers ++ drop (6 * c.synchronizers) zeros) no_arcs ≡ ascii text
+  pub prints : text_of c.synchronizers (Ok (answer.Timed setups holds)) (numbers ++ drop (6 * c.synchronizers) zeros) no_arcs ≡ ascii text
 
 -- no late departures fit, and these arcs are a ring with that gain, above zero. The first leaves its lowest-numbered synchronizer. No
 -- other ring can be shown, so the report is fixed too
@@ -36,7 +35,7 @@ pub record Grows (c : Circuit) (arcs : List ℕ) (total : ℤ) (text : String) :
   pub lowest : walk.Every (λ i. loop.ring.start ≤ i) (sources (flow late c) arcs)
   pub gains : gain (flow late c) arcs ≡ total
   pub only : (r : Ring (flow late c)) → walk.Every (λ i. r.start ≤ i) (sources (flow late c) r.path) → r.path ≡ arcs
-  pub prints : text_of c.synchronizers (answer.Growing (length arcs) total) zeros (arcs ++ drop (length arcs) no_arcs) ≡ ascii text
+  pub prints : text_of c.synchronizers (Ok (answer.Growing (length arcs) total)) zeros (arcs ++ drop (length arcs) no_arcs) ≡ ascii text
 
 -- by the least late departures, the path to i is launched at s and has these arcs
 pub record CameOver (c : Circuit) (i s : ℕ) (arcs : List ℕ) : Type 0 where
@@ -51,7 +50,7 @@ Comes c (path i s arcs) = CameOver c i s arcs
 
 -- the image is accepted, and its circuit comes out as known
 pub record Holds (k : Known) : Type 0 where
-  pub accepted : check_of k.bytes ≡ Good (image_in k.bytes)
+  pub accepted : check_of k.bytes ≡ Ok (image_in k.bytes)
   pub comes : Comes (circuit_of k.bytes) k.outcome
 
 abbrev pub AllOf : (Known → Type 0) → List Known → Type 0

@@ -3,6 +3,7 @@
 use mathlib.Core.Path.{◌≡◌, refl, sym, ap, ◌∙◌}
 use mathlib.Core.Bool.{Bool, true, false}
 use mathlib.Core.List.{List, ◌++◌}
+use Rattle.std.specs.Prelude.{Result, Ok}
 use Prim.Native.Nat.{ℕ, ◌≤◌, ◌<◌}
 use native.Mathlib.Omega.{arith}
 use lib.Dec.{leb}
@@ -13,7 +14,7 @@ use borrow.Author.Tests.{leb-true, leb-false}
 use Rattle.image.specs.Header.{most_bytes}
 use Rattle.image.specs.Checks.{check_of}
 use Rattle.image.specs.Valid.{image_in}
-use Rattle.image.specs.declared.checks.Checked.TheVariants.{Good}
+use Rattle.image.specs.declared.refusal.Refusal.{Refusal}
 use Rattle.image.proofs.Enough.{valid_short, enough}
 use Rattle.image.proofs.Validity.{accepts}
 use Rattle.timing.specs.TimingPromise.{Timing, refused, few_numbers, few_arcs, growing, timed}
@@ -25,8 +26,8 @@ use Rattle.std.specs.Io.KnownBytes.{Appends}
 use Rattle.neelukudam.specs.Promise.{Whole, Shows}
 
 -- two inputs, refused alike
-module _ (a b : List ℕ) (same : check_of a ≡ check_of b) (bad : check_of a ≡ Good (image_in a) → ⊥) where
-  timing_alike : {answer : Answer} {numbers : List ℤ} {arcs : List ℕ} → Timing a zeros no_arcs answer numbers arcs →
+module _ (a b : List ℕ) (same : check_of a ≡ check_of b) (bad : check_of a ≡ Ok (image_in a) → ⊥) where
+  timing_alike : {answer : Result Answer Refusal} {numbers : List ℤ} {arcs : List ℕ} → Timing a zeros no_arcs answer numbers arcs →
       Timing b zeros no_arcs answer numbers arcs × ((l m : ℕ) → text_of l answer numbers arcs ≡ text_of m answer numbers arcs)
   unfolding text_of
   timing_alike (refused e) = (refused (sym same ∙ e), λ l m. refl)

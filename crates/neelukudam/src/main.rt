@@ -15,7 +15,7 @@ use streams::read_full;
 const MOST_READ: usize = (Image::MOST_BYTES as usize) + 1;
 
 // The report of a whole input, of which a buffer holds the front, `size` bytes. The buffer has room for more than the largest image has, so
-// what follows changes nothing.
+// what follows changes nothing. Bytes and size stay two: the promises `Whole` and `Shows` speak of the buffer and of how much of it was read.
 fn report_all(bytes: &[u8], size: usize, text: &mut [u8; LONGEST]) -> usize
     requires bytes_len { length bytes.now ≡ most_bytes + 1 }
     requires size_in_bounds { size ≤ length bytes.now }

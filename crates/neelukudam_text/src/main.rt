@@ -5,13 +5,13 @@
 ghost use Rattle.std.specs.Prelude.{◌≡◌, ◌+◌, ◌≤◌, length, OnOk, IfSome};
 ghost use Rattle.std.specs.Io.KnownBytes.{Appends};
 ghost use Rattle.grammar.specs.Text.{longest_text};
-ghost use Rattle.neelukudam_text.specs.Promise.{Whole, refusal, Shows, Answers};
+ghost use Rattle.neelukudam_text.specs.Promise.{Whole, refusal_line, Shows, Answers};
 
-use image::Image;
+use image::{Image, Refusal};
 use std::io;
 use std::io::{Read, Write};
 use streams::read_full;
-use text::{LONGEST, Made, image_from_text};
+use text::{LONGEST, image_from_text};
 
 // One byte more than the longest text has, so that a longer one is seen to be too long.
 const MOST_READ: usize = LONGEST + 1;
@@ -20,8 +20,8 @@ const MOST_READ: usize = LONGEST + 1;
 const ROOM: usize = Image::MOST_BYTES as usize;
 
 // The image of a whole input, of which a buffer holds the front, `size` bytes. The buffer has room for more than the longest text has, so what
-// follows changes nothing.
-fn make_all(text: &[u8], size: usize, image: &mut [u8; ROOM]) -> Made
+// follows changes nothing. Text and size stay two: the promises `Whole` and `Shows` speak of the buffer and of how much of it was read.
+fn make_all(text: &[u8], size: usize, image: &mut [u8; ROOM]) -> Result<u32, Refusal>
     requires text_len { length text.now ≡ longest_text + 1 }
     requires size_in_bounds { size ≤ length text.now }
     ensures { Whole text.now size image.old result image.new }
@@ -29,11 +29,11 @@ fn make_all(text: &[u8], size: usize, image: &mut [u8; ROOM]) -> Made
     image_from_text(&text[..size], image)
 }
 
-// A refusal, in the words of a report.
-fn print_refusal<W: Write>(refusals: &mut W, rule: u32, culprit: u32) -> io::Result<()>
-    ensures { OnOk result (Appends (W.contents refusals.old) (W.contents refusals.new) (refusal rule culprit)) }
+// A refusal, in the words of a report. It stands apart: tried in the arm of `print_image`, what `writeln!` wrote is lost there and the goal stays open.
+fn print_refusal<W: Write>(refusals: &mut W, refusal: Refusal) -> io::Result<()>
+    ensures { OnOk result (Appends (W.contents refusals.old) (W.contents refusals.new) (refusal_line refusal)) }
 {
-    writeln!(refusals, "refused {rule} {culprit}")
+    writeln!(refusals, "{refusal}")
 }
 
 // Writes that image, or what the text is refused for.
@@ -50,8 +50,8 @@ fn print_image<W: Write, V: Write>(
 {
     let mut image = [0u8; ROOM];
     match make_all(text, size, &mut image) {
-        Made::Image(bytes) => output.write_all(&image[..bytes as usize]),
-        Made::Refused(rule, culprit) => print_refusal(refusals, rule, culprit),
+        Ok(bytes) => output.write_all(&image[..bytes as usize]),
+        Err(refusal) => print_refusal(refusals, refusal),
     }
 }
 

@@ -3,14 +3,18 @@
 use mathlib.Core.Path.{◌≡◌, refl, sym, ap, ◌∙◌}
 use mathlib.Core.List.{List, [], ◌∷◌, ◌++◌, map, append_assoc, append-nil}
 use mathlib.Core.Logic.{inl, inr}
+use Rattle.std.specs.Prelude.{Result, Ok, Err}
 use Prim.Native.Nat.{ℕ, zero, suc, ◌*◌, ◌/◌, ◌%◌, ◌≤◌, ◌<◌}
 use native.Mathlib.Omega.{arith}
 use lib.IntN.{ℤ, pos, negsuc}
 use lib.ListN.{take, drop, get_or}
 use Rattle.flow.specs.Walk.{Every}
 use Rattle.flow.proofs.Joined.{every_join}
+use Rattle.image.specs.Refusal.{number_of}
+use Rattle.image.specs.declared.refusal.Refusal.{Refusal}
+use Rattle.image.proofs.RuleNumbers.{number_tells}
 use Rattle.timing.specs.declared.timing_call.Answer.{Answer}
-use Rattle.timing.specs.declared.timing_call.Answer.TheVariants.{Refused, Growing, Timed}
+use Rattle.timing.specs.declared.timing_call.Answer.TheVariants.{Growing, Timed}
 use Rattle.report.specs.Ascii.{ascii}
 use Rattle.report.specs.Decimal.{digit, digits, signed, result_text}
 use Rattle.report.specs.Text.{feed, spaced, line, each, arc_line, row, text_of}
@@ -129,42 +133,42 @@ results_same (x ∷ xs) (y ∷ ys) e =
 results_same (x ∷ xs) [] e = let k : ◌≡◌ {A = ℕ} 0 1 = cc in let z : ⊥ = omega arith in absurd z
 
 -- the parts of a report: its first line, and the lines after it
-abbrev word : Answer → List ℕ
-word (Refused rule culprit) = ascii "refused"
-word (Growing count gain) = ascii "loop"
-word (Timed setups holds) = ascii "timed"
+abbrev word : Result Answer Refusal → List ℕ
+word (Err why) = ascii "refused"
+word (Ok (Growing count gain)) = ascii "loop"
+word (Ok (Timed setups holds)) = ascii "timed"
 
-abbrev fields_of : ℕ → Answer → List (List ℕ)
-fields_of l (Refused rule culprit) = digits rule ∷ digits culprit ∷ []
-fields_of l (Growing count gain) = digits count ∷ signed gain ∷ []
-fields_of l (Timed setups holds) = digits l ∷ digits setups ∷ digits holds ∷ []
+abbrev fields_of : ℕ → Result Answer Refusal → List (List ℕ)
+fields_of l (Err why) = digits (number_of why.rule) ∷ digits why.«record» ∷ []
+fields_of l (Ok (Growing count gain)) = digits count ∷ signed gain ∷ []
+fields_of l (Ok (Timed setups holds)) = digits l ∷ digits setups ∷ digits holds ∷ []
 
-abbrev rest_of : ℕ → Answer → List ℤ → List ℕ → List ℕ
-rest_of l (Refused rule culprit) R A = []
-rest_of l (Growing count gain) R A = each (arc_line A) count
-rest_of l (Timed setups holds) R A = each (row R) l
+abbrev rest_of : ℕ → Result Answer Refusal → List ℤ → List ℕ → List ℕ
+rest_of l (Err why) R A = []
+rest_of l (Ok (Growing count gain)) R A = each (arc_line A) count
+rest_of l (Ok (Timed setups holds)) R A = each (row R) l
 
-text_is : (l : ℕ) (X : Answer) (R : List ℤ) (A : List ℕ) → text_of l X R A ≡ line (word X) (fields_of l X) ++ rest_of l X R A
+text_is : (l : ℕ) (X : Result Answer Refusal) (R : List ℤ) (A : List ℕ) → text_of l X R A ≡ line (word X) (fields_of l X) ++ rest_of l X R A
 unfolding text_of
-text_is l (Refused rule culprit) R A = sym (append-nil _)
-text_is l (Growing count gain) R A = refl
-text_is l (Timed setups holds) R A = refl
+text_is l (Err why) R A = sym (append-nil _)
+text_is l (Ok (Growing count gain)) R A = refl
+text_is l (Ok (Timed setups holds)) R A = refl
 
-word_field : (X : Answer) → Field (word X)
-word_field (Refused rule culprit) = (omega arith, (omega arith, (omega arith, (omega arith, (omega arith, (omega arith, (omega arith, tt)))))))
-word_field (Growing count gain) = (omega arith, (omega arith, (omega arith, (omega arith, tt))))
-word_field (Timed setups holds) = (omega arith, (omega arith, (omega arith, (omega arith, (omega arith, tt)))))
+word_field : (X : Result Answer Refusal) → Field (word X)
+word_field (Err why) = (omega arith, (omega arith, (omega arith, (omega arith, (omega arith, (omega arith, (omega arith, tt)))))))
+word_field (Ok (Growing count gain)) = (omega arith, (omega arith, (omega arith, (omega arith, tt))))
+word_field (Ok (Timed setups holds)) = (omega arith, (omega arith, (omega arith, (omega arith, (omega arith, tt)))))
 
-fields_of_lem : (l : ℕ) (X : Answer) → Fields (fields_of l X)
-fields_of_lem l (Refused rule culprit) = (digits_field rule, (digits_field culprit, tt))
-fields_of_lem l (Growing count gain) = (digits_field count, (signed_field gain, tt))
-fields_of_lem l (Timed setups holds) = (digits_field l, (digits_field setups, (digits_field holds, tt)))
+fields_of_lem : (l : ℕ) (X : Result Answer Refusal) → Fields (fields_of l X)
+fields_of_lem l (Err why) = (digits_field (number_of why.rule), (digits_field why.«record», tt))
+fields_of_lem l (Ok (Growing count gain)) = (digits_field count, (signed_field gain, tt))
+fields_of_lem l (Ok (Timed setups holds)) = (digits_field l, (digits_field setups, (digits_field holds, tt)))
 
 -- what two reports of one answer have in common: the arcs of the ring; the number of synchronizers and their results
-abbrev pub Shared : Answer → ℕ → ℕ → List ℤ → List ℤ → List ℕ → List ℕ → Type 0
-Shared (Refused rule culprit) l k R S A B = Unit {0}
-Shared (Growing count gain) l k R S A B = (i : ℕ) → i < count → get_or A i 0 ≡ get_or B i 0
-Shared (Timed setups holds) l k R S A B = (l ≡ k) × ((i : ℕ) → i < l → take 6 (drop (6 * i) R) ≡ take 6 (drop (6 * i) S))
+abbrev pub Shared : Result Answer Refusal → ℕ → ℕ → List ℤ → List ℤ → List ℕ → List ℕ → Type 0
+Shared (Err why) l k R S A B = Unit {0}
+Shared (Ok (Growing count gain)) l k R S A B = (i : ℕ) → i < count → get_or A i 0 ≡ get_or B i 0
+Shared (Ok (Timed setups holds)) l k R S A B = (l ≡ k) × ((i : ℕ) → i < l → take 6 (drop (6 * i) R) ≡ take 6 (drop (6 * i) S))
 
 module _ (l k : ℕ) (R S : List ℤ) (A B : List ℕ) where
   arcs_same : (m n : ℕ) → m ≡ n → each (arc_line A) m ≡ each (arc_line B) n → (i : ℕ) → i < m → get_or A i 0 ≡ get_or B i 0
@@ -175,28 +179,31 @@ module _ (l k : ℕ) (R S : List ℤ) (A B : List ℕ) where
   rows_same e h i b = results_same _ _ (each_lines l digits digits (λ i. map result_text (take 6 (drop (6 * i) R))) (λ i. map result_text (take 6 (drop (6 * i) S)))
       digits_field digits_field (λ i. results_fields (take 6 (drop (6 * i) R))) (λ i. results_fields (take 6 (drop (6 * i) S))) (rw (sym e) at h) i b).1
 
-  same : (X Y : Answer) → word X ≡ word Y → fields_of l X ≡ fields_of k Y → rest_of l X R A ≡ rest_of k Y S B → (X ≡ Y) × Shared X l k R S A B
-  same (Refused r c) (Refused s d) w f e =
-      let p = digits_determine r s cc in
-      let q = digits_determine c d cc in
-      (rw (p, q), tt)
-  same (Growing m g) (Growing n h) w f e =
+  same : (X Y : Result Answer Refusal) → word X ≡ word Y → fields_of l X ≡ fields_of k Y → rest_of l X R A ≡ rest_of k Y S B → (X ≡ Y) × Shared X l k R S A B
+  same (Err x) (Err y) w f e =
+      let p = number_tells x.rule y.rule (digits_determine (number_of x.rule) (number_of y.rule) cc) in
+      let q = digits_determine x.«record» y.«record» cc in
+      (alike x y p q, tt)
+    where
+      alike : (x y : Refusal) → x.rule ≡ y.rule → x.«record» ≡ y.«record» → ◌≡◌ {A = Result Answer Refusal} (Err x) (Err y)
+      alike x y p q = rw (p, q)
+  same (Ok (Growing m g)) (Ok (Growing n h)) w f e =
       let p = digits_determine m n cc in
       let q = signed_determines g h cc in
       (rw (p, q), arcs_same m n p e)
-  same (Timed r c) (Timed s d) w f e =
+  same (Ok (Timed r c)) (Ok (Timed s d)) w f e =
       let o = digits_determine l k cc in
       let p = digits_determine r s cc in
       let q = digits_determine c d cc in
       (rw (p, q), (o, rows_same o e))
-  same (Refused r c) (Growing n h) w f e = let z : ◌≡◌ {A = ℕ} 114 108 = cc in let k : ⊥ = omega arith in absurd k
-  same (Refused r c) (Timed s d) w f e = let z : ◌≡◌ {A = ℕ} 114 116 = cc in let k : ⊥ = omega arith in absurd k
-  same (Growing n h) (Refused r c) w f e = let z : ◌≡◌ {A = ℕ} 108 114 = cc in let k : ⊥ = omega arith in absurd k
-  same (Growing n h) (Timed s d) w f e = let z : ◌≡◌ {A = ℕ} 108 116 = cc in let k : ⊥ = omega arith in absurd k
-  same (Timed s d) (Refused r c) w f e = let z : ◌≡◌ {A = ℕ} 116 114 = cc in let k : ⊥ = omega arith in absurd k
-  same (Timed s d) (Growing n h) w f e = let z : ◌≡◌ {A = ℕ} 116 108 = cc in let k : ⊥ = omega arith in absurd k
+  same (Err x) (Ok (Growing n h)) w f e = let z : ◌≡◌ {A = ℕ} 114 108 = cc in let k : ⊥ = omega arith in absurd k
+  same (Err x) (Ok (Timed s d)) w f e = let z : ◌≡◌ {A = ℕ} 114 116 = cc in let k : ⊥ = omega arith in absurd k
+  same (Ok (Growing n h)) (Err x) w f e = let z : ◌≡◌ {A = ℕ} 108 114 = cc in let k : ⊥ = omega arith in absurd k
+  same (Ok (Growing n h)) (Ok (Timed s d)) w f e = let z : ◌≡◌ {A = ℕ} 108 116 = cc in let k : ⊥ = omega arith in absurd k
+  same (Ok (Timed s d)) (Err x) w f e = let z : ◌≡◌ {A = ℕ} 116 114 = cc in let k : ⊥ = omega arith in absurd k
+  same (Ok (Timed s d)) (Ok (Growing n h)) w f e = let z : ◌≡◌ {A = ℕ} 116 108 = cc in let k : ⊥ = omega arith in absurd k
 
-  pub text_determines : (X Y : Answer) → text_of l X R A ≡ text_of k Y S B → (X ≡ Y) × Shared X l k R S A B
+  pub text_determines : (X Y : Result Answer Refusal) → text_of l X R A ≡ text_of k Y S B → (X ≡ Y) × Shared X l k R S A B
   text_determines X Y e =
       let p = lines_apart (word X) (word Y) (fields_of l X) (fields_of k Y) (rest_of l X R A) (rest_of k Y S B)
       (word_field X) (word_field Y) (fields_of_lem l X) (fields_of_lem k Y) (sym (text_is l X R A) ∙ e ∙ text_is k Y S B) in

@@ -4,12 +4,16 @@ use mathlib.Core.Path.{◌≡◌, refl, sym, ◌∙◌}
 use mathlib.Core.Bool.{Bool, true, false}
 use mathlib.Core.List.{[], ◌∷◌, ◌++◌}
 use mathlib.Core.Logic.{◌⊎◌, inl, inr}
-use Prim.Native.Nat.{ℕ, zero, suc, ◌+◌, ◌/◌, ◌%◌, ◌^◌, ◌≤◌, ◌<◌}
+use Prim.Native.Nat.{ℕ, zero, suc, ◌+◌, ◌*◌, ◌/◌, ◌%◌, ◌^◌, ◌≤◌, ◌<◌}
 use native.Mathlib.Nat.{pow-succ'}
 use native.Mathlib.Omega.{arith}
 use lib.Dec.{ltb}
 use lib.ListN.{length, length-append}
 use borrow.Author.Tests.{ltb-true, ltb-false, lt-ltb, le-ltb}
+use Rattle.std.specs.declared.option.Option.{Option}
+use Rattle.std.specs.declared.option.Option.TheVariants.{None, Some}
+use Rattle.std.specs.Prelude.{IfNone, IfSome, unwrap_or}
+use Rattle.std.proofs.Math.Nat.{one-le-pow}
 use Rattle.report.specs.Decimal.{digit, digits_up_to, digits}
 
 pub size : (n : ℕ) → (n < 10) ⊎ (10 ≤ n)
@@ -57,6 +61,20 @@ digits_few (suc k) n h = elim (size n) [
   | inl few ↦ rw (digits_one n few) (omega arith)
   | inr many ↦ omega (arith, more_long n many, digits_few k (n / 10) (omega (arith, pow-succ' 10 (suc k))))
 ]
+
+-- and one of 10^k or more has at least one digit more than k
+digits_many : (k n : ℕ) → 10 ^ k ≤ n → suc k ≤ length (digits n)
+digits_many zero n h = digits_some n
+digits_many (suc k) n h = elim (size n) [
+  | inl few ↦ let z : ⊥ = omega (arith, pow-succ' 10 k, one-le-pow k 10 (omega arith)) in absurd z
+  | inr many ↦ omega (arith, more_long n many, digits_many k (n / 10) (omega (arith, pow-succ' 10 k)))
+]
+
+-- by its logarithm, if it has one
+pub digits_counted : (n : ℕ) (log : Option ℕ) → IfNone log (n ≡ 0) → IfSome log (λ k. 10 ^ k ≤ n) → IfSome log (λ k. n < 10 * 10 ^ k) →
+    unwrap_or log 0 + 1 ≡ length (digits n)
+digits_counted n None none low high = rw (none, digits_one 0 (omega arith)) refl
+digits_counted n (Some k) none low high = omega (arith, digits_many k n low, digits_few k n (omega (arith, high, pow-succ' 10 k)))
 
 -- where k digits are known to be enough, they are all
 pub digits_within : (k n : ℕ) → n < 10 ^ suc k → digits n ≡ digits_up_to (suc k) n

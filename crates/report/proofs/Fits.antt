@@ -2,13 +2,15 @@
 -- number but the mark is 2^41 or more in size, so its line has at most `ROW` bytes.
 use mathlib.Core.Path.{◌≡◌}
 use mathlib.Core.List.{List, [], ◌∷◌, ◌++◌}
+use Rattle.std.specs.Prelude.{Result, Err}
 use Prim.Native.Nat.{ℕ, ◌*◌, ◌≤◌}
 use native.Mathlib.Omega.{arith}
 use lib.IntN.{ℤ}
 use lib.ListN.{length, drop, length-append}
 use Rattle.image.specs.Header.{most_synchronizers}
+use Rattle.image.specs.Refusal.{number_of}
 use Rattle.image.specs.Checks.{check_of}
-use Rattle.image.specs.declared.checks.Checked.TheVariants as check
+use Rattle.image.specs.declared.refusal.Refusal.{Refusal}
 use Rattle.image.proofs.Validity.{accepts}
 use Rattle.flow.specs.Flow.{late, early}
 use Rattle.circuit.specs.Circuit.{circuit_of}
@@ -17,7 +19,6 @@ use Rattle.circuit.proofs.Sound.{Sound, sound}
 use Rattle.circuit.proofs.Sizes.{AllSmall, results_small}
 use Rattle.timing.specs.TimingPromise.{Timing, refused, few_numbers, few_arcs, growing, timed, Served}
 use Rattle.timing.specs.declared.timing_call.Answer.{Answer}
-use Rattle.timing.specs.declared.timing_call.Answer.TheVariants.{Refused}
 use Rattle.timing.proofs.Writing as writing
 use Rattle.report.specs.Limits.{LENT_NUMBERS, ROW, LONGEST}
 use Rattle.report.specs.Ascii.{ascii}
@@ -32,11 +33,11 @@ module _ (bytes : List ℕ) where
   pub served_sound : {numbers : List ℤ} {arcs : List ℕ} → Served bytes numbers arcs → Sound (circuit_of bytes)
   served_sound s = sound bytes ((accepts bytes).1 s.good)
 
-  pub text_fits : {X : Answer} {R : List ℤ} {A : List ℕ} → Timing bytes zeros no_arcs X R A → length (report_of bytes X R A) ≤ LONGEST
+  pub text_fits : {X : Result Answer Refusal} {R : List ℤ} {A : List ℕ} → Timing bytes zeros no_arcs X R A → length (report_of bytes X R A) ≤ LONGEST
   unfolding text_of
-  text_fits (refused {rule} {culprit} e) =
-      let h = refused_small rule culprit bytes e in
-      omega (arith, refused_few rule culprit (omega (arith, h.1)) (omega (arith, h.2)))
+  text_fits (refused {why} e) =
+      let h = refused_small why bytes e in
+      omega (arith, refused_few (number_of why.rule) why.«record» (omega (arith, h.1)) (omega (arith, h.2)))
   text_fits (few_numbers ok h) = omega (arith, refused_few 10 0 (omega arith) (omega arith))
   text_fits (few_arcs ok l h) = omega (arith, refused_few 11 0 (omega arith) (omega arith))
   text_fits (growing {count} {gain} {shown} s ring) =
@@ -62,8 +63,8 @@ module _ (bytes : List ℕ) where
       rw (length-append (line (ascii "timed") (digits l ∷ digits setups ∷ digits holds ∷ [])) (each (row R) l)) (omega (arith, head, rest, few))
 
   -- timing's buffers are long enough: a refusal is one of the image
-  pub refused_by_image : {rule culprit : ℕ} {R : List ℤ} {A : List ℕ} → Timing bytes zeros no_arcs (Refused rule culprit) R A →
-      check_of bytes ≡ check.Refused rule culprit
+  pub refused_by_image : {why : Refusal} {R : List ℤ} {A : List ℕ} → Timing bytes zeros no_arcs (Err why) R A →
+      check_of bytes ≡ Err why
   refused_by_image (refused e) = e
   refused_by_image (few_numbers ok h) = let v = sound bytes ((accepts bytes).1 ok) in let z : ⊥ = omega (arith, v.synchronizers) in absurd z
   refused_by_image (few_arcs ok l h) = let v = sound bytes ((accepts bytes).1 ok) in let z : ⊥ = omega (arith, v.synchronizers) in absurd z

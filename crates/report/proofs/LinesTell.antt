@@ -15,12 +15,7 @@ use Rattle.circuit.specs.Times.{six, results}
 use Rattle.timing.proofs.SixResults.{length-results}
 use Rattle.report.specs.Decimal.{digits, result_text}
 use Rattle.report.specs.Text.{line, each, arc_line, row}
-
--- texts that agree one by one
-each_same : (f g : ℕ → List ℕ) (n : ℕ) → ((i : ℕ) → i < n → f i ≡ g i) → each f n ≡ each g n
-unfolding each
-each_same f g zero h = refl
-each_same f g (suc n) h = rw (each_same f g n (λ i l. h i (omega arith)), h n (omega arith))
+use Rattle.report.proofs.Rows.{each_same}
 
 module _ (c : Circuit) (E D : ℕ → ℤ) where
   six_long : (n : ℕ) → length (six c E D n) ≡ 6

@@ -2,6 +2,7 @@
 use mathlib.Core.Path.{◌≡◌, sym, ◌∙◌}
 use mathlib.Core.List.{List}
 use mathlib.Core.Logic.{◌⊎◌, inl, inr}
+use Rattle.std.specs.Prelude.{Ok}
 use Prim.Native.Nat.{ℕ}
 use lib.IntN.{ℤ}
 use Rattle.timing.specs.declared.timing_call.Answer.TheVariants.{Growing}
@@ -15,8 +16,8 @@ pub record Alike (m n : ℕ) (x y : List ℕ) : Type 0 where
 
 -- both tell of a growing loop
 pub record BothLoop {bytes before : List ℕ} {m n : ℕ} {x y : List ℕ} (p : Report bytes before m x) (q : Report bytes before n y) : Type 0 where
-  pub one : (count : ℕ) × (gain : ℤ) × (p.answer ≡ Growing count gain)
-  pub other : (count : ℕ) × (gain : ℤ) × (q.answer ≡ Growing count gain)
+  pub one : (count : ℕ) × (gain : ℤ) × (p.answer ≡ Ok (Growing count gain))
+  pub other : (count : ℕ) × (gain : ℤ) × (q.answer ≡ Ok (Growing count gain))
 
 module _ (bytes before : List ℕ) {m n : ℕ} {x y : List ℕ} (p : Report bytes before m x) (q : Report bytes before n y) where
   same : Same p.answer q.answer p.numbers q.numbers p.arcs q.arcs → Alike m n x y

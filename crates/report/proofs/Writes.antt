@@ -1,25 +1,21 @@
--- One text after the other: stores side by side, and their lengths.
+-- One text after the other on a page, and the room that is left.
 use mathlib.Core.Path.{◌≡◌, refl, sym, ap, subst, ◌∙◌}
-use mathlib.Core.List.{List, [], ◌∷◌, ◌++◌, append-nil}
+use mathlib.Core.List.{List, [], ◌∷◌, ◌++◌, append_assoc, append-nil}
 use Prim.Native.Nat.{ℕ, zero, suc, ◌+◌, ◌-◌, ◌≤◌, ◌<◌}
 use native.Mathlib.Omega.{arith}
-use lib.ListN.{length, take, drop, get_or, length-append}
-use lib.Seq.{length-sets, sets-eq, take-suc, take-length}
 use lib.IntN.{ℤ}
+use lib.ListN.{length, take, drop, length-append, length-drop}
+use Rattle.std.specs.Borrow.{GName}
+use Rattle.std.proofs.lemmas.List.{length-take-le, take-append-drop, take_at, drop_at, drop-drop}
 use mir.Syntax.{w64}
 use mir.Val.{SFits}
 use Rattle.ticks.proofs.Words.{worded, word_is}
-use Rattle.image.proofs.Lists.{sets_append}
 use Rattle.report.specs.Text.{each}
-use Rattle.report.specs.Inside.Written.{RoomFor, Wrote, joined, lengths}
+use Rattle.report.specs.Inside.Page.{Sheet, ◌then◌}
+use Rattle.image.proofs.Lists.{sets_append}
+use Rattle.report.specs.Inside.Written.{Wrote, AtFront, joined, lengths}
 
-pub wrote_none : (before : List ℕ) (at : ℕ) → Wrote [] before at before at
-wrote_none before at = record { stored = refl; ends = omega arith }
-
-pub wrote_long : {xs before after : List ℕ} {at next : ℕ} → Wrote xs before at after next → length after ≡ length before
-wrote_long {xs} {before} {after} {at} w = ap length w.stored ∙ length-sets before at xs
-
--- two texts, one after the other; a list of pieces is written by this, piece after piece, which `search` finds by itself
+-- two texts, one after the other, in a buffer
 pub wrote_then : {xs ys before between after : List ℕ} {at middle next : ℕ} →
     Wrote xs before at between middle → Wrote ys between middle after next → Wrote (xs ++ ys) before at after next
 wrote_then {xs} {ys} {before} {at = at} v w = record {
@@ -27,41 +23,65 @@ wrote_then {xs} {ys} {before} {at = at} v w = record {
   ends = rw (length-append xs ys) (omega (arith, v.ends, w.ends));
 }
 
--- one byte, and then a text
-pub wrote_cons : {x : ℕ} {xs before between after : List ℕ} {at middle next : ℕ} →
-    Wrote (x ∷ []) before at between middle → Wrote xs between middle after next → Wrote (x ∷ xs) before at after next
-wrote_cons v w = wrote_then v w
+-- the same on a page
+pub sheet_then : (p : Sheet) (xs ys : List ℕ) {q r : Sheet} → q ≡ p then xs → r ≡ q then ys → r ≡ p then (xs ++ ys)
+sheet_then p xs ys v w =
+    w ∙ ap (λ (s : Sheet). s then ys) v ∙ rw (append_assoc p.words xs ys, drop-drop (length ys) (length xs) p.rest, length-append xs ys) refl
 
--- the last of the pieces
-pub wrote_last : {xs before after : List ℕ} {at next : ℕ} → Wrote xs before at after next → Wrote (xs ++ []) before at after next
-wrote_last {xs} w = rw append-nil w
+-- words put where a page ends, whose end is then moved past them
+pub placed : (old new words : List ℕ) (end count start : ℕ) (buffer : GName) → count ≡ length words → end + count ≤ length old → start + length words ≡ end + count →
+    drop start new ≡ words ++ drop (end + count) old → take start new ≡ take start old →
+    ◌≡◌ {A = Sheet} (record { words = take (end + count) new; rest = drop (end + count) new; buffer = buffer })
+    (record { words = take end old; rest = drop end old; buffer = buffer } then words)
+placed old new words end count start buffer long fits starts after before =
+    let here : start ≡ end = omega (arith, long, starts) in
+    let front : take end new ≡ take end old = rw here at before in
+    let back : drop end new ≡ words ++ drop (end + count) old = rw here at after in
+    let reach : length (take end old ++ words) ≡ end + count = rw length-append (omega (arith, length-take-le end old (omega (arith, fits)), long)) in
+    let all : new ≡ (take end old ++ words) ++ drop (end + count) old =
+    sym (take-append-drop end new) ∙ rw (front, back) (sym (append_assoc (take end old) words (drop (end + count) old))) in
+    let words_are : take (end + count) new ≡ take end old ++ words = ap (take (end + count)) all ∙ take_at (take end old ++ words) (drop (end + count) old) (end + count) reach in
+    let rest_is : drop (end + count) new ≡ drop (length words) (drop end old) =
+    ap (drop (end + count)) all ∙ drop_at (take end old ++ words) (drop (end + count) old) (end + count) reach ∙ rw (drop-drop (length words) end old, long) refl in
+    rw (words_are, rest_is) refl
 
 -- a signed number in a word of the machine is written as the number itself
-module _ (text : ℤ → List ℕ) where
-  pub word_wrote : {z : ℤ} {before after : List ℕ} {at next : ℕ} → SFits w64 z →
-      Wrote (text (worded z)) before at after next → Wrote (text z) before at after next
-  word_wrote {z} f w = rw (word_is z f) at w
-
-  pub word_long : (z : ℤ) → SFits w64 z → length (text (worded z)) ≡ length (text z)
-  word_long z f = rw (word_is z f)
-
--- where there is room for two texts, there is for the first, and then for the second
-pub room_first : (xs ys : List ℕ) {buffer : List ℕ} {at : ℕ} → RoomFor (xs ++ ys) at buffer → RoomFor xs at buffer
-room_first xs ys h = omega (arith, h.room, length-append xs ys)
-
-pub room_rest : (xs ys : List ℕ) {before after : List ℕ} {at next : ℕ} → RoomFor (xs ++ ys) at before → Wrote xs before at after next → RoomFor ys next after
-room_rest xs ys h w = omega (arith, h.room, length-append xs ys, w.ends, wrote_long w)
+pub word_wrote : (text : ℤ → List ℕ) (z : ℤ) (p : Sheet) {q : Sheet} → SFits w64 z → q ≡ p then text (worded z) → q ≡ p then text z
+word_wrote text z p {q} f w = subst (λ (y : ℤ). q ≡ p then text y) (word_is z f) w
 
 -- pieces are as long as all of them
 pub joined_long : (pieces : List (List ℕ)) → length (joined pieces) ≡ lengths pieces
 joined_long [] = refl
 joined_long (piece ∷ pieces) = omega (arith, length-append piece (joined pieces), joined_long pieces)
 
--- written from the front on
-pub wrote_front : {xs before after : List ℕ} {next : ℕ} → length xs ≤ length before → Wrote xs before 0 after next → after ≡ xs ++ drop next before
-wrote_front {xs} {before} {after} {next} h w =
-    let e : next ≡ 0 + length xs = w.ends in
-    w.stored ∙ sets-eq xs before 0 (omega arith) ∙ rw e refl
+-- pieces follow one another on a page
+pub data Steps : Sheet → List (List ℕ) → Sheet → Type 0 where
+  last : {p : Sheet} → Steps p [] p
+  step : {p m q : Sheet} {piece : List ℕ} {pieces : List (List ℕ)} → m ≡ p then piece → Steps m pieces q → Steps p (piece ∷ pieces) q
+
+steps_joined : {pieces : List (List ℕ)} {p q : Sheet} → Steps p pieces q → q ≡ p then joined pieces
+steps_joined (last {p}) = rw append-nil refl
+steps_joined (step {p} {piece = piece} {pieces} e s) = sheet_then p piece (joined pieces) e (steps_joined s)
+
+-- the buffer had no more room than they take and the page still has
+pub steps_room : {pieces : List (List ℕ)} {p q : Sheet} {before : List ℕ} {buffer : GName} →
+    p ≡ record { words = []; rest = before; buffer = buffer } → Steps p pieces q → length before ≤ lengths pieces + length q.rest
+steps_room {pieces} {before = before} e s =
+    let told = steps_joined s ∙ ap (λ (s : Sheet). s then joined pieces) e in
+    omega (arith, joined_long pieces, length-drop (length (joined pieces)) before, ap (λ (s : Sheet). length s.rest) told)
+
+-- from the front on, in the buffer that the page was made of
+pub steps_told : {pieces : List (List ℕ)} {p q : Sheet} {before after left : List ℕ} {size : ℕ} {buffer : GName} →
+    p ≡ record { words = []; rest = before; buffer = buffer } → Steps p pieces q → size ≡ length q.words → left ≡ q.words ++ q.rest →
+    (buffer ≡ q.buffer → after ≡ left) → AtFront (joined pieces) before size after
+steps_told {pieces} {before = before} e s sized written kept =
+    let told = steps_joined s ∙ ap (λ (s : Sheet). s then joined pieces) e in
+    let size = sized ∙ ap (λ (s : Sheet). length s.words) told in
+    let same = kept (sym (ap (λ (s : Sheet). s.buffer) told)) in
+    record {
+      sized = size;
+      written = same ∙ written ∙ ap (λ (s : Sheet). s.words ++ s.rest) told ∙ ap (λ (n : ℕ). joined pieces ++ drop n before) (sym size);
+    }
 
 module _ (text : ℕ → List ℕ) where
   -- d more texts take no less room
@@ -76,29 +96,16 @@ module _ (text : ℕ → List ℕ) where
   each_long i = length-append (each text i) (text i)
 
   -- where there is room for all n, there is for the one after the first i
-  pub each_room : {at next n : ℕ} {before after : List ℕ} (i : ℕ) → i < n → RoomFor (each text n) at before →
-      Wrote (each text i) before at after next → RoomFor (text i) next after
-  each_room {n = n} i l h w = omega (arith, h.room, grows (n - suc i) (suc i) n (omega arith), each_long i, w.ends, wrote_long w)
+  pub each_room : (p : Sheet) (i n : ℕ) {q : Sheet} → i < n → length (each text n) ≤ length p.rest → q ≡ p then each text i → length (text i) ≤ length q.rest
+  each_room p i n l h w =
+      rw w (omega (arith, h, length-drop (length (each text i)) p.rest, grows (n - suc i) (suc i) n (omega arith), each_long i))
 
   -- one text more
-  pub each_more : {i at middle next : ℕ} {before between after : List ℕ} →
-      Wrote (each text i) before at between middle → Wrote (text i) between middle after next → Wrote (each text (suc i)) before at after next
+  pub each_more : (p : Sheet) (i : ℕ) {q r : Sheet} → q ≡ p then each text i → r ≡ q then text i → r ≡ p then each text (suc i)
   unfolding each
-  each_more v w = wrote_then v w
+  each_more p i v w = sheet_then p (each text i) (text i) v w
 
-  -- none yet, and all
-  pub each_none : (before : List ℕ) (at : ℕ) → Wrote (each text 0) before at before at
+  -- none yet
+  pub each_none : (p : Sheet) → p ≡ p then each text 0
   unfolding each
-  each_none before at = wrote_none before at
-
-  pub each_all : {i n at next : ℕ} {before after : List ℕ} → i ≡ n → Wrote (each text i) before at after next → Wrote (each text n) before at after next
-  each_all {at = at} {next} {before} {after} e w = subst (λ (k : ℕ). Wrote (each text k) before at after next) e w
-
--- the bytes of a list one by one
-each_bytes : (xs : List ℕ) (n : ℕ) → n ≤ length xs → each (λ j. get_or xs j 0 ∷ []) n ≡ take n xs
-unfolding each
-each_bytes xs zero l = refl
-each_bytes xs (suc n) l = rw (each_bytes xs n (omega arith)) (sym (take-suc xs n 0 (omega arith)))
-
-pub bytes_are : (xs : List ℕ) → each (λ j. get_or xs j 0 ∷ []) (length xs) ≡ xs
-bytes_are xs = each_bytes xs (length xs) (omega arith) ∙ take-length xs
+  each_none p = rw append-nil refl

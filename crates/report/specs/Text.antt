@@ -1,10 +1,12 @@
 -- The text of a report (docs/RULES.md, "The calls").
-use Rattle.std.specs.Prelude.{List, [], ◌∷◌, ◌++◌, map, ℕ, zero, suc, ◌*◌, ℤ, take, drop, get_or}
+use Rattle.std.specs.Prelude.{List, [], ◌∷◌, ◌++◌, map, ℕ, zero, suc, ◌*◌, ℤ, take, drop, get_or, Result, Ok, Err}
 use Prim.Native.Char.{code}
 use Rattle.report.specs.Ascii.{ascii}
 use Rattle.report.specs.Decimal.{digits, signed, result_text}
+use Rattle.image.specs.Refusal.{number_of}
+use Rattle.image.specs.declared.refusal.Refusal.{Refusal}
 use Rattle.timing.specs.declared.timing_call.Answer.{Answer}
-use Rattle.timing.specs.declared.timing_call.Answer.TheVariants.{Refused, Growing, Timed}
+use Rattle.timing.specs.declared.timing_call.Answer.TheVariants.{Growing, Timed}
 
 abbrev pub space : ℕ
 space = code " "
@@ -39,7 +41,7 @@ abbrev pub row : List ℤ → ℕ → List ℕ
 row numbers i = line (digits i) (six numbers (6 * i))
 
 -- the report of timing's answer about a circuit of l synchronizers, with the two buffers as timing left them
-unfoldable pub text_of : ℕ → Answer → List ℤ → List ℕ → List ℕ
-text_of l (Refused rule culprit) numbers arcs = line (ascii "refused") (digits rule ∷ digits culprit ∷ [])
-text_of l (Growing count gain) numbers arcs = line (ascii "loop") (digits count ∷ signed gain ∷ []) ++ each (arc_line arcs) count
-text_of l (Timed setups holds) numbers arcs = line (ascii "timed") (digits l ∷ digits setups ∷ digits holds ∷ []) ++ each (row numbers) l
+unfoldable pub text_of : ℕ → Result Answer Refusal → List ℤ → List ℕ → List ℕ
+text_of l (Err why) numbers arcs = line (ascii "refused") (digits (number_of why.rule) ∷ digits why.«record» ∷ [])
+text_of l (Ok (Growing count gain)) numbers arcs = line (ascii "loop") (digits count ∷ signed gain ∷ []) ++ each (arc_line arcs) count
+text_of l (Ok (Timed setups holds)) numbers arcs = line (ascii "timed") (digits l ∷ digits setups ∷ digits holds ∷ []) ++ each (row numbers) l

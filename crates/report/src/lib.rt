@@ -3,6 +3,7 @@
 
 mod decimal;
 mod lines;
+mod page;
 mod report_call;
 
 pub use report_call::{LONGEST, report};

@@ -1,13 +1,13 @@
 // The call: what timing answers, told as text.
 ghost use Rattle.std.specs.Prelude.{◌≡◌, ◌*◌, ◌≤◌, length};
+ghost use Rattle.image.specs.Refusal.{number_of};
 ghost use Rattle.report.specs.Limits.{LONGEST};
 ghost use Rattle.report.specs.Inside.Pieces.{refused_pieces, loop_pieces, timed_pieces};
-ghost use Rattle.report.specs.Inside.Written.{Wrote, joined, lengths};
+ghost use Rattle.report.specs.Inside.Written.{AtFront, joined, lengths};
 ghost use Rattle.report.specs.Promise.{Report};
 
-use crate::decimal::write_byte;
-use crate::lines::{write_arcs, write_gain, write_number, write_rows, write_word};
-use image::{Image, word};
+use crate::page::Page;
+use image::{Image, Refusal, word};
 use timing::{Answer, timing};
 
 // The buffers that timing is lent have one arc for each synchronizer, and six numbers.
@@ -25,41 +25,47 @@ const ROW: usize = 3 + 6 * (1 + 1 + 13) + 1;
 pub const LONGEST: usize = FIRST_LINE + ROW * (Image::MOST_SYNCHRONIZERS as usize);
 
 // `refused NUMBER RECORD`.
-fn tell_refused(rule: u32, culprit: u32, text: &mut [u8]) -> usize
-    requires { lengths (refused_pieces rule culprit) ≤ length text.old }
-    ensures { Wrote (joined (refused_pieces rule culprit)) text.old 0 text.new result }
+fn tell_refused(refusal: Refusal, text: &mut [u8]) -> usize
+    requires { lengths (refused_pieces (number_of refusal.rule) refusal.«record») ≤ length text.old }
+    ensures { AtFront (joined (refused_pieces (number_of refusal.rule) refusal.«record»)) text.old result text.new }
 {
-    let one = write_word(b"refused", 0, text);
-    let two = write_number(rule as u64, one, text);
-    let three = write_number(culprit as u64, two, text);
-    write_byte(b'\n', three, text)
+    let mut page = Page::new(text);
+    page.write(b"refused");
+    page.write_number(refusal.rule.number());
+    page.write_number(refusal.record);
+    page.end_line();
+    page.finish()
 }
 
-// `loop ARCS GAIN`, then the arcs.
+// `loop ARCS GAIN`, then the arcs. The count stands beside the buffer, as in `loop_pieces`.
 fn tell_loop(count: u32, gain: i64, arcs: &[u32], text: &mut [u8]) -> usize
     requires count_in_bounds { count ≤ length arcs.now }
     requires arcs_in_bounds { lengths (loop_pieces count gain arcs.now) ≤ length text.old }
-    ensures { Wrote (joined (loop_pieces count gain arcs.now)) text.old 0 text.new result }
+    ensures { AtFront (joined (loop_pieces count gain arcs.now)) text.old result text.new }
 {
-    let one = write_word(b"loop", 0, text);
-    let two = write_number(count as u64, one, text);
-    let three = write_gain(gain, two, text);
-    let four = write_byte(b'\n', three, text);
-    write_arcs(arcs, count as usize, four, text)
+    let mut page = Page::new(text);
+    page.write(b"loop");
+    page.write_number(count);
+    page.write_gain(gain);
+    page.end_line();
+    page.write_arcs(&arcs[..count as usize]);
+    page.finish()
 }
 
-// `timed SYNCHRONIZERS SETUPS HOLDS`, then a line for each synchronizer.
+// `timed SYNCHRONIZERS SETUPS HOLDS`, then a line for each synchronizer. Their number stands beside the buffer, as in `timed_pieces`.
 fn tell_timed(l: u32, setups: u32, holds: u32, numbers: &[i64], text: &mut [u8]) -> usize
     requires l_in_bounds { 6 * l ≤ length numbers.now }
     requires numbers_in_bounds { lengths (timed_pieces l setups holds numbers.now) ≤ length text.old }
-    ensures { Wrote (joined (timed_pieces l setups holds numbers.now)) text.old 0 text.new result }
+    ensures { AtFront (joined (timed_pieces l setups holds numbers.now)) text.old result text.new }
 {
-    let one = write_word(b"timed", 0, text);
-    let two = write_number(l as u64, one, text);
-    let three = write_number(setups as u64, two, text);
-    let four = write_number(holds as u64, three, text);
-    let five = write_byte(b'\n', four, text);
-    write_rows(numbers, l as usize, five, text)
+    let mut page = Page::new(text);
+    page.write(b"timed");
+    page.write_number(l);
+    page.write_number(setups);
+    page.write_number(holds);
+    page.end_line();
+    page.write_rows(&numbers[..6 * l as usize]);
+    page.finish()
 }
 
 // The report of an image, in a buffer that is long enough for any. Timing gets buffers that are long enough for every good image, so it
@@ -71,9 +77,9 @@ fn tell(bytes: &[u8], text: &mut [u8]) -> usize
     let mut numbers = [0i64; LENT_NUMBERS];
     let mut arcs = [0u32; LENT_ARCS];
     match timing(bytes, &mut numbers, &mut arcs) {
-        Answer::Refused(rule, culprit) => tell_refused(rule, culprit, text),
-        Answer::Growing(count, gain) => tell_loop(count, gain, &arcs, text),
-        Answer::Timed(setups, holds) => {
+        Err(refusal) => tell_refused(refusal, text),
+        Ok(Answer::Growing { arcs: count, gain }) => tell_loop(count, gain, &arcs, text),
+        Ok(Answer::Timed { setups, holds }) => {
             tell_timed(word(bytes, 12), setups, holds, &numbers, text)
         }
     }

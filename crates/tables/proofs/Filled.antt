@@ -4,14 +4,11 @@ use mathlib.Core.List.{List}
 use Prim.Native.Nat.{ℕ, ◌+◌, ◌<◌}
 use native.Mathlib.Omega.{arith}
 use native.Mathlib.Decide.{ℕ_discrete}
-use lib.ListN.{length, set, length-set}
+use lib.ListN.{set, length-set}
 use lib.Seq.{get_or-set_same, get_or-set_other}
 use Rattle.tables.specs.Inside.Filled.{Filled}
 
 module _ {size : ℕ} {f : ℕ → ℕ} {xs : List ℕ} where
-  pub fill_none : length xs ≡ size → Filled size f xs 0
-  fill_none e = record { long = e; holds = λ j l. let z : ⊥ = omega arith in absurd z }
-
   pub fill_more : {i : ℕ} {ys : List ℕ} → i < size → ys ≡ set xs i (f i) → Filled size f xs i → Filled size f ys (i + 1)
   fill_more {i} {ys} l e h = record {
     long = rw e (length-set xs i (f i) ∙ h.long);

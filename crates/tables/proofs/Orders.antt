@@ -2,13 +2,15 @@
 use mathlib.Core.Path.{◌≡◌, refl, sym, ap, ◌∙◌}
 use mathlib.Core.Bool.{Bool, true, false, cond}
 use mathlib.Core.List.{List}
-use Prim.Native.Nat.{ℕ, suc, ◌+◌, ◌-◌, ◌<◌, ◌≤◌}
+use mathlib.Core.Logic.{◌⊎◌, inl, inr}
+use Prim.Native.Nat.{ℕ, zero, suc, ◌+◌, ◌-◌, ◌<◌, ◌≤◌}
 use native.Mathlib.Omega.{arith}
 use native.Mathlib.Decide.{dec_lt, ℕ_discrete}
 use lib.Dec.{eqb}
 use lib.ListN.{length, get_or, set, length-set}
 use lib.Seq.{get_or-set_same, get_or-set_other}
 use borrow.Author.Tests.{eq-eqb, ne_eqb}
+use Rattle.std.proofs.lemmas.Grind.{merely, not_there}
 use Rattle.flow.proofs.Pigeonhole.{pigeons}
 use Rattle.tables.specs.Inside.Net.{times_of}
 use Rattle.tables.specs.Inside.Listing.{Listed, Enlisted, Order, Stacked}
@@ -22,6 +24,21 @@ listed_more list n j h = (h.0, omega (arith, h.1), h.2)
 -- lists that agree below n
 pub listed_same : (list other : ℕ → ℕ) (n j : ℕ) → ((x : ℕ) → x < n → other x ≡ list x) → Listed list n j → Listed other n j
 listed_same list other n j same h = (h.0, h.1, same h.0 h.1 ∙ h.2)
+
+-- one can look through the list for j
+listed_or : (list : ℕ → ℕ) (n j : ℕ) → Listed list n j ⊎ (Listed list n j → ⊥)
+listed_or list zero j = inr (λ h. let z : ⊥ = omega (arith, h.1) in z)
+listed_or list (suc n) j = elim (ℕ_discrete (list n) j) [
+  | yes e ↦ inl (n, omega arith, e)
+  | no d ↦ elim (listed_or list n j) [
+    | inl h ↦ inl (h.0, omega (arith, h.1), h.2)
+    | inr none ↦ inr (λ h. elim (ℕ_discrete h.0 n) [ yes q ↦ d (ap list (sym q) ∙ h.2) | no q ↦ none (h.0, omega (arith, h.1), h.2) ])
+  ]
+]
+
+-- so where j is somewhere, its place is known
+pub listed_found : {list : ℕ → ℕ} {n j : ℕ} → ∥ Listed list n j ∥₁ → Listed list n j
+listed_found {list} {n} {j} h = elim (listed_or list n j) [ inl k ↦ k | inr none ↦ absurd (not_there h none) ]
 
 -- all nodes by their numbers
 pub order_all : (l : ℕ) → Order l (λ i. i)
@@ -47,17 +64,17 @@ few_listed list n l inside apart = elim (dec_lt l n) [
 ]
 
 -- the empty list
-pub enlist_none : {l : ℕ} {marks list : List ℕ} → length marks ≡ NODES → length list ≡ NODES → ((j : ℕ) → get_or marks j 0 ≡ 0) → Enlisted l marks list 0
+pub enlist_none : {l : ℕ} {marks : List Bool} {list : List ℕ} → length marks ≡ NODES → length list ≡ NODES → ((j : ℕ) → get_or marks j false ≡ false) → Enlisted l marks list 0
 enlist_none e f blank = record {
   long = (e, f);
   nodes = λ x k. let z : ⊥ = omega arith in absurd z;
   apart = λ y k. let z : ⊥ = omega arith in absurd z;
   marked = λ x k. let z : ⊥ = omega arith in absurd z;
-  listed = λ j q. let z : ⊥ = omega (arith, blank j, q) in absurd z;
+  listed = λ j q. let b = blank j in cc;
 }
 
-module _ {l : ℕ} {marks list : List ℕ} {count : ℕ} (i : ℕ) (here : i < l) (few : l ≤ NODES) (h : Enlisted l marks list count)
-    (new : get_or marks i 0 ≡ 1 → ⊥) where
+module _ {l : ℕ} {marks : List Bool} {list : List ℕ} {count : ℕ} (i : ℕ) (here : i < l) (few : l ≤ NODES) (h : Enlisted l marks list count)
+    (new : get_or marks i false ≡ true → ⊥) where
   fresh : (x : ℕ) → x < count → get_or list x 0 ≡ i → ⊥
   fresh x k e = new (rw e at (h.marked x k))
 
@@ -101,9 +118,9 @@ module _ {l : ℕ} {marks list : List ℕ} {count : ℕ} (i : ℕ) (here : i < l
   pub enlist_here : Listed (times_of (set list count i)) (count + 1) i
   enlist_here = (count, omega arith, spot)
 
-  pub enlist_new : Enlisted l (set marks i 1) (set list count i) (count + 1)
+  pub enlist_new : Enlisted l (set marks i true) (set list count i) (count + 1)
   enlist_new = record {
-    long = (length-set marks i 1 ∙ h.long.0, length-set list count i ∙ h.long.1);
+    long = (length-set marks i true ∙ h.long.0, length-set list count i ∙ h.long.1);
     nodes = λ x k. elim (ℕ_discrete x count) [ yes q ↦ rw (q, spot) here | no q ↦ rw (kept x (omega arith)) (h.nodes x (omega arith)) ];
     apart = λ y k x o e.
         let p = kept x (omega arith) in
@@ -113,19 +130,19 @@ module _ {l : ℕ} {marks list : List ℕ} {count : ℕ} (i : ℕ) (here : i < l
         ];
     marked = λ x k. elim (ℕ_discrete x count) [
       | yes q ↦ rw (q, spot) mark
-      | no q ↦ rw (kept x (omega arith)) (get_or-set_other marks i (get_or list x 0) 1 0 (fresh x (omega arith)) ∙ h.marked x (omega arith))
+      | no q ↦ rw (kept x (omega arith)) (get_or-set_other marks i (get_or list x 0) true false (fresh x (omega arith)) ∙ h.marked x (omega arith))
     ];
     listed = λ j e. elim (ℕ_discrete j i) [
-      | yes q ↦ rw q enlist_here
-      | no q ↦ enlist_kept j (h.listed j (sym (get_or-set_other marks i j 1 0 q) ∙ e))
+      | yes q ↦ rw q (merely enlist_here)
+      | no q ↦ merely (enlist_kept j (listed_found (h.listed j (sym (get_or-set_other marks i j true false q) ∙ e))))
     ];
   }
     where
-      mark : get_or (set marks i 1) i 0 ≡ 1
-      mark = get_or-set_same marks i 1 0 (omega (arith, h.long.0))
+      mark : get_or (set marks i true) i false ≡ true
+      mark = get_or-set_same marks i true false (omega (arith, h.long.0))
 
 -- a list without repeats that has all nodes is an order of them
-pub enlist_all : {l : ℕ} {marks list : List ℕ} {count : ℕ} → Enlisted l marks list count →
+pub enlist_all : {l : ℕ} {marks : List Bool} {list : List ℕ} {count : ℕ} → Enlisted l marks list count →
     ((j : ℕ) → j < l → Listed (times_of list) count j) → Order l (times_of list)
 enlist_all {l} {marks} {list} {count} h all = record {
   nodes = λ x k. h.nodes x (omega (arith, enough));
@@ -148,19 +165,6 @@ enlist_all {l} {marks} {list} {count} h all = record {
           absurd z)
     ]
 
--- a stack: nothing on it, one node more, one fewer
+-- an empty stack
 pub stack_none : {l : ℕ} {stack : List ℕ} → length stack ≡ NODES → Stacked l stack 0
 stack_none e = record { long = e; few = omega arith; nodes = λ x k. let z : ⊥ = omega arith in absurd z }
-
-pub stack_more : {l : ℕ} {stack : List ℕ} {depth : ℕ} (i : ℕ) → l ≤ NODES → i < l → depth < l → Stacked l stack depth → Stacked l (set stack depth i) (depth + 1)
-stack_more {stack = stack} {depth} i most here room h = record {
-  long = length-set stack depth i ∙ h.long;
-  few = omega arith;
-  nodes = λ x k. elim (ℕ_discrete x depth) [
-    | yes q ↦ rw (q, get_or-set_same stack depth i 0 (omega (arith, h.long))) here
-    | no q ↦ rw (get_or-set_other stack depth x i 0 q) (h.nodes x (omega arith))
-  ];
-}
-
-pub stack_less : {l : ℕ} {stack : List ℕ} {depth : ℕ} → Stacked l stack depth → Stacked l stack (depth - 1)
-stack_less h = record { long = h.long; few = omega (arith, h.few); nodes = λ x k. h.nodes x (omega arith) }

@@ -2,13 +2,13 @@
 -- rank above 0, it is also the step back, for the arrival is then the departure.
 use mathlib.Core.Path.{◌≡◌, refl, sym, ◌∙◌}
 use mathlib.Core.List.{List, [], ◌∷◌, ◌++◌}
-use Prim.Native.Nat.{ℕ, zero, suc, ◌+◌, ◌<◌, ◌≤◌}
+use Prim.Native.Nat.{ℕ, zero, suc, ◌<◌, ◌≤◌}
 use native.Mathlib.Omega.{arith}
 use lib.ListN.{length, length-append}
 use Rattle.ticks.specs.Inside.Raised.{lower}
 use Rattle.ticks.proofs.Order.{≤ℤ_antisym}
 use Rattle.ticks.proofs.Raised.{lower-le, lower_injective}
-use Rattle.flow.specs.Flow.{Flow, Good, late, at, brings, arrival, Fits}
+use Rattle.flow.specs.Flow.{Flow, Good, late, brings, Fits}
 use Rattle.flow.specs.Rank.{Lowest, Rank, Tight}
 use Rattle.flow.specs.Path.{Brought, Last, Back, PathTo}
 use Rattle.flow.proofs.Arrival.{arrival_by}

@@ -8,7 +8,7 @@ use lib.Dec.{ltb}
 use lib.ListN.{get_or, set}
 use borrow.Author.Tests.{eq-eqb, ne_eqb, ltb-true, ltb-false}
 use Rattle.flow.specs.Flow.{Side}
-use Rattle.tables.specs.Inside.Net.{Net, times_of, brought, best, degree, arrival_n, Ranged}
+use Rattle.tables.specs.Inside.Net.{Net, times_of, best, degree, arrival_n, Ranged}
 use Rattle.tables.specs.Inside.Raise.{raised, Given, Brings, Lifted, Tried, stays, rises, Sweepable}
 use Rattle.tables.proofs.WalksOverArcs.{best_given}
 use Rattle.tables.proofs.Raising.{raised_above}

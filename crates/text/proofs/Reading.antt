@@ -1,48 +1,37 @@
 -- Reading line after line: what holds of the tally and the room before a line holds after it too (`SoFar`), and at the end of the text it says
 -- whether the text has a reading.
 use mathlib.Core.Path.{◌≡◌, refl, sym, ap, subst, ◌∙◌}
-use mathlib.Core.Bool.{Bool, true, false, ◌&&◌, not}
+use mathlib.Core.Bool.{false}
 use mathlib.Core.List.{List, [], ◌∷◌, ◌++◌}
-use mathlib.Core.Logic.{◌≢◌}
+use mathlib.Core.Logic.{inl, inr}
 use Prim.Native.Nat.{ℕ, ◌+◌, ◌*◌, ◌≤◌, ◌<◌}
 use native.Mathlib.Omega.{arith}
-use lib.Dec.{eqb}
 use lib.ListN.{length, drop, replicate, length-append, length-drop}
 use lib.Seq.{sets}
-use borrow.Author.Tests.{ne_eqb, eqb-false}
+use Rattle.std.specs.Prelude.{None, Some}
+use Rattle.std.proofs.lemmas.Bool.{both_ways}
+use Rattle.std.proofs.lemmas.Option.{same_Some, none-some}
 use Rattle.image.specs.Header.{header_bytes, most_bytes}
 use Rattle.image.proofs.Lists.{sets_append}
-use Rattle.grammar.specs.Lines.{Says}
-use Rattle.grammar.specs.Text.{rank, stage_after, line_feed, longest_text, InPlace, Begins, start, one_more, Stuck}
+use Rattle.grammar.specs.Text.{rank, stage_after, line_feed, longest_text, InPlace, Begins, start, one_more, Fault, at_line}
 use Rattle.grammar.specs.Layout.{bytes_of, phases_of, synchronizers_of, arcs_of}
-use Rattle.grammar.specs.Inside.Reader.{lost, line_at}
+use Rattle.grammar.specs.Inside.Reader.{line_at, in_place}
 use Rattle.grammar.specs.Inside.Rows.{words_of, flat}
 use Rattle.grammar.specs.declared.read.Line.{Line}
 use Rattle.grammar.specs.declared.read.Line.TheVariants as line
 use Rattle.grammar.specs.declared.read.Read.{Read}
-use Rattle.grammar.proofs.Sound.{line_sound}
+use Rattle.grammar.proofs.Sound.{Finds, holds, StandsLine, line_sound}
 use Rattle.grammar.proofs.Complete.{line_complete}
-use Rattle.grammar.proofs.InOrder.{cycle_append, phases_append, synchronizers_append, arcs_append, flat_snoc, none_begun, place_rank, in_order}
+use Rattle.grammar.proofs.InOrder.{cycle_append, phases_append, synchronizers_append, arcs_append, flat_snoc, none_begun, place_rank, in_order, placed}
 use Rattle.grammar.proofs.HeaderLaid.{phase_rows, synchronizer_rows, arc_rows, phases_long, synchronizers_long, arcs_long}
 use Rattle.grammar.proofs.WordsBack.{bytes_long}
 use Rattle.grammar.proofs.SmallLines.{begins_few, records_few}
 use Rattle.text.specs.Inside.Stores.{stored_all, behind_words}
-use Rattle.text.specs.Inside.Tally.{tallied, Few, Of, Place, stuck, next, SoFar}
+use Rattle.text.specs.Inside.Tally.{stage_number, tallied, Few, Of, SoFar, Done}
+use Rattle.text.specs.declared.tally.Stage.{Stage}
+use Rattle.text.specs.declared.tally.Stage.TheVariants.{Start, Phases, Synchronizers, Arcs}
 use Rattle.text.specs.declared.tally.Tally.{Tally}
 use Rattle.text.proofs.Storing.{behind_words_lem, stored_all_lem}
-
--- both tests of a line
-pub good_line : (to : ℕ) (b : Bool) → (not (eqb to lost) && b) ≡ true → (to ≢ lost) × (b ≡ true)
-good_line to b h = go (eqb to lost) refl h where
-  go : (f : Bool) → eqb to lost ≡ f → (not f && b) ≡ true → (to ≢ lost) × (b ≡ true)
-  go true e h = let z : ◌≡◌ {A = ℕ} 0 1 = cc in let no : ⊥ = omega (arith, z) in absurd no
-  go false e h = (eqb-false to lost e, h)
-
-pub bad_line : (to : ℕ) (b : Bool) → (not (eqb to lost) && b) ≡ false → to ≢ lost → b ≡ true → ⊥
-bad_line to b h found here = let z : ◌≡◌ {A = ℕ} 0 1 = clash (rw (ne_eqb to lost found, here) at h) in omega (arith, z)
-  where
-    clash : true ≡ false → ◌≡◌ {A = ℕ} 0 1
-    clash e = cc
 
 -- ---- a line more in the tally
 module _ (lines : List Line) (t : Tally) (of : Of lines t) where
@@ -89,7 +78,8 @@ module _ (lines : List Line) (t : Tally) (of : Of lines t) where
     end = end_after (line.Arc a);
   }
 
-stage_more : (x : Line) (t : Tally) (to : ℕ) → stage_after x ≡ (tallied x t to).stage
+-- what a line more does to the stage, the place and the end
+stage_more : (x : Line) (t : Tally) (to : ℕ) → stage_after x ≡ stage_number (tallied x t to).stage
 stage_more (line.Cycle n) t to = refl
 stage_more (line.Phase p) t to = refl
 stage_more (line.Synchronizer s) t to = refl
@@ -116,18 +106,16 @@ flat_long {lines = lines} b =
 
 -- ---- before the first line
 pub started : (text : List ℕ) → SoFar text
-    (record { at = 0; lines = 0; stage = 0; end = header_bytes; cycle = 0; phases = 0; synchronizers = 0; arcs = 0 })
+    (record { at = 0; lines = 0; stage = Start; end = header_bytes; cycle = 0; phases = 0; synchronizers = 0; arcs = 0 })
     (replicate most_bytes 0)
 started text = record {
   lines = [];
-  rest = text;
   begins = start;
   of = record { count = refl; cycle = refl; phases = refl; synchronizers = refl; arcs = refl; end = refl };
-  place = next (omega arith) refl;
+  place = omega arith;
   laid = λ _. refl;
 }
 
--- ---- a line more
 module _ (text : List ℕ) (short : length text ≤ longest_text) (t : Tally) (room : List ℕ) (k : SoFar text t room) where
   pub few : Few t
   few =
@@ -141,92 +129,94 @@ module _ (text : List ℕ) (short : length text ≤ longest_text) (t : Tally) (r
         end = omega (arith, k.of.end, flat_long k.begins, n, r, short);
       }
 
+  -- ---- a line more
   module _ (inside : t.at < length text) where
-    left : k.rest ≡ drop t.at text
-    left = go k.place where
-      go : Place text t k.rest → k.rest ≡ drop t.at text
-      go (stuck e n s) = let no : ⊥ = omega (arith, e, inside, short) in absurd no
-      go (next l e) = e
-
     -- what stands at the place lies within the text
     within : (s after : List ℕ) → drop t.at text ≡ s ++ (line_feed ∷ after) → t.at + length s + 1 ≤ length text
     within s after e =
         let l = sym (length-drop t.at text) ∙ ap length e ∙ length-append s (line_feed ∷ after) in
         omega (arith, l, inside)
 
-    -- it stands on the grammar and in its place
-    pub goes_on : (line_at text t.at).next ≢ lost → InPlace t.stage (line_at text t.at).line →
-        SoFar text (tallied (line_at text t.at).line t (line_at text t.at).next) (stored_all room t.end (words_of (line_at text t.at).line))
-    goes_on found here = record {
-      lines = k.lines ++ (x ∷ []);
-      rest = drop to text;
-      begins = rw (← stage_more x t to) (one_more (subst (Begins text t.stage k.lines) (left ∙ e) k.begins) says here);
-      of = of_more k.lines t k.of x to (λ z. none_begun k.begins (omega (arith, z, place_rank t.stage x here)));
-      place = next (rw (at_more x t to) inside_to) (rw (at_more x t to) refl);
-      laid = λ fit. laid (rw (end_more x t to) at fit);
-    } where
-      x : Line
-      x = (line_at text t.at).line
+    -- one that stands on the grammar and in its place is taken
+    module _ (read : Read) (found : line_at text t.at ≡ Some read) where
+      stands : StandsLine text t.at read
+      stands = holds (subst (Finds (StandsLine text t.at)) found (line_sound text t.at))
 
-      to : ℕ
-      to = (line_at text t.at).next
+      place : read.next ≡ t.at + length stands.s + 1
+      place = ap (λ (r : Read). r.next) (same_Some _ _ (sym found ∙ line_complete text stands.s (drop read.next text) t.at read.line stands.is stands.from))
 
-      s : List ℕ
-      s = (line_sound text t.at short found).0
+      pub onward : t.at < read.next
+      onward = omega (arith, place)
 
-      says : Says s x
-      says = (line_sound text t.at short found).1
+      pub goes_on : InPlace (stage_number t.stage) read.line →
+          SoFar text (tallied read.line t read.next) (stored_all room t.end (words_of read.line))
+      goes_on here = record {
+        lines = k.lines ++ (x ∷ []);
+        begins = rw (← stage_more x t to, at_more x t to)
+            (one_more (subst (Begins text (stage_number t.stage) k.lines) stands.from k.begins) stands.is here);
+        of = of_more k.lines t k.of x to (λ z. none_begun k.begins (omega (arith, z, place_rank (stage_number t.stage) x here)));
+        place = rw (at_more x t to) (omega (arith, place, within stands.s (drop to text) stands.from));
+        laid = λ fit. laid (rw (end_more x t to) at fit);
+      } where
+        x : Line
+        x = read.line
 
-      e : drop t.at text ≡ s ++ (line_feed ∷ drop to text)
-      e = (line_sound text t.at short found).2
+        to : ℕ
+        to = read.next
 
-      inside_to : to ≤ length text
-      inside_to =
-          let there : to ≡ t.at + length s + 1 = ap (λ (r : Read). r.next) (line_complete text s (drop to text) t.at x says e) in
-          omega (arith, there, within s (drop to text) e)
+        laid : behind_words t.end (words_of x) ≤ most_bytes → stored_all room t.end (words_of x) ≡ sets (replicate most_bytes 0) header_bytes (flat (k.lines ++ (x ∷ [])))
+        laid fit =
+            let small : t.end ≤ most_bytes = omega (arith, fit, behind_words_lem t.end (words_of x)) in
+            let bytes = bytes_of (words_of x) in
+            stored_all_lem room t.end (words_of x) fit
+            ∙ ap (λ (r : List ℕ). sets r t.end bytes) (k.laid small)
+            ∙ ap (λ (n : ℕ). sets (sets (replicate most_bytes 0) header_bytes (flat k.lines)) n bytes) k.of.end
+            ∙ sym (sets_append (flat k.lines) bytes (replicate most_bytes 0) header_bytes)
+            ∙ ap (λ (l : List ℕ). sets (replicate most_bytes 0) header_bytes l) (sym (flat_snoc k.lines x))
 
-      laid : behind_words t.end (words_of x) ≤ most_bytes → stored_all room t.end (words_of x) ≡ sets (replicate most_bytes 0) header_bytes (flat (k.lines ++ (x ∷ [])))
-      laid fit =
-          let small : t.end ≤ most_bytes = omega (arith, fit, behind_words_lem t.end (words_of x)) in
-          let bytes = bytes_of (words_of x) in
-          stored_all_lem room t.end (words_of x) fit
-          ∙ ap (λ (r : List ℕ). sets r t.end bytes) (k.laid small)
-          ∙ ap (λ (n : ℕ). sets (sets (replicate most_bytes 0) header_bytes (flat k.lines)) n bytes) k.of.end
-          ∙ sym (sets_append (flat k.lines) bytes (replicate most_bytes 0) header_bytes)
-          ∙ ap (λ (l : List ℕ). sets (replicate most_bytes 0) header_bytes l) (sym (flat_snoc k.lines x))
-
-    -- it does not
-    pub stops : ((line_at text t.at).next ≢ lost → InPlace t.stage (line_at text t.at).line → ⊥) →
-        SoFar text (record {
-          at = lost;
-          lines = t.lines;
-          stage = t.stage;
-          end = t.end;
-          cycle = t.cycle;
-          phases = t.phases;
-          synchronizers = t.synchronizers;
-          arcs = t.arcs;
-        }) room
-    stops none = record {
+    -- where none may stand, that line is at fault
+    pub stops : ((read : Read) → line_at text t.at ≡ Some read → InPlace (stage_number t.stage) read.line → ⊥) → Fault text t.lines
+    stops none = at_line (record {
+      short = short;
+      stage = stage_number t.stage;
       lines = k.lines;
-      rest = k.rest;
-      begins = k.begins;
-      of = record {
-        count = k.of.count;
-        cycle = k.of.cycle;
-        phases = k.of.phases;
-        synchronizers = k.of.synchronizers;
-        arcs = k.of.arcs;
-        end = k.of.end;
-      };
-      place = stuck refl some nowhere;
-      laid = k.laid;
-    } where
-      some : k.rest ≢ []
-      some e = let l = sym (length-drop t.at text) ∙ ap length (sym left ∙ e) in omega (arith, l, inside)
+      rest = drop t.at text;
+      before = k.begins;
+      count = sym k.of.count;
+      unfinished = inl (λ e. omega (arith, length-drop t.at text, ap length e, inside));
+      stuck = λ s after x e says here. none _ (line_complete text s after t.at x says e) here;
+    })
 
-      nowhere : Stuck t.stage k.rest
-      nowhere s after x e says here =
-          let e' = sym left ∙ e in
-          let read = line_complete text s after t.at x says e' in
-          none (rw read (λ z. omega (arith, z, within s after e', short))) (rw read here)
+    pub no_line : line_at text t.at ≡ None → Fault text t.lines
+    no_line e = stops (λ read f here. none-some read (sym e ∙ f))
+
+    pub misplaced : (read : Read) → line_at text t.at ≡ Some read → in_place (stage_number t.stage) read.line ≡ false → Fault text t.lines
+    misplaced read e off = stops λ other f here.
+        let same = same_Some _ _ (sym f ∙ e) in
+        both_ways _ off (ap (λ (r : Read). in_place (stage_number t.stage) r.line) (sym same) ∙ placed (stage_number t.stage) other.line here)
+
+  -- ---- the end of the text
+  module _ (end : length text ≤ t.at) where
+    -- without a line
+    pub empty : stage_number t.stage ≡ 0 → Fault text t.lines
+    empty first = at_line (record {
+      short = short;
+      stage = stage_number t.stage;
+      lines = k.lines;
+      rest = drop t.at text;
+      before = k.begins;
+      count = sym k.of.count;
+      unfinished = inr first;
+      stuck = λ s after x e says here.
+          let long = sym (length-drop t.at text) ∙ ap length e ∙ length-append s (line_feed ∷ after) in omega (arith, long, end);
+    })
+
+    pub done : 1 ≤ stage_number t.stage → Done text t room
+    done begun = record { short = short; so_far = k; end = omega (arith, k.place, end); begun = begun }
+
+-- a stage that is not the first
+pub begun_stage : (stage : Stage) → (stage ≡ Start → ⊥) → 1 ≤ stage_number stage
+begun_stage Start h = absurd (h refl)
+begun_stage Phases h = omega arith
+begun_stage Synchronizers h = omega arith
+begun_stage Arcs h = omega arith

@@ -1,66 +1,80 @@
--- One step of grammar's reader: what it gives where a test holds, and where it does not.
-use mathlib.Core.Path.{◌≡◌, refl}
-use mathlib.Core.Bool.{Bool, true, false, ◌&&◌, not}
+-- One step of grammar's reader: what it gives where a byte or a digit is found, and where it is not.
+use mathlib.Core.Path.{◌≡◌, refl, sym, ap, ◌∙◌}
+use mathlib.Core.Bool.{Bool, true, false}
 use mathlib.Core.List.{List}
-use Prim.Native.Nat.{ℕ, zero, suc, ◌+◌, ◌-◌, ◌≤◌, ◌<◌}
-use native.Mathlib.Numerals.{sub-one}
+use Prim.Native.Char.{code}
+use Prim.Native.Nat.{ℕ, zero, suc, ◌+◌, ◌-◌, ◌*◌, ◌≤◌, ◌<◌}
 use native.Mathlib.Omega.{arith}
-use lib.Dec.{leb, eqb}
-use lib.ListN.{length}
-use borrow.Author.Tests.{lt-ltb, le-ltb, le-leb, lt-leb, eq-eqb, ne_eqb, leb-true}
+use lib.ListN.{length, drop, get_or, drop_of_length-le}
+use Rattle.std.specs.Prelude.{Option, None, Some, if◌then◌else◌}
+use Rattle.std.proofs.lemmas.Bool.{le-leb, lt-leb}
+use Rattle.std.proofs.lemmas.Option.{cond_some, none-some}
 use Rattle.image.specs.Words.{byte_at}
-use Rattle.grammar.specs.Numbers.{greatest, most_digits}
-use Rattle.grammar.specs.Inside.Reader.{lost, behind, is_digit, longer, no_number, digits_at, number_at}
+use Rattle.grammar.specs.Numbers.{greatest}
+use Rattle.grammar.specs.Inside.Reader.{and_then, ◌>>=◌, behind, behind_all, word_at, is_digit, digit_at, digits_at}
+use Rattle.grammar.proofs.Places.{left}
 
-pub behind_hit : (bytes : List ℕ) (at c : ℕ) → at < length bytes → byte_at bytes at ≡ c → behind bytes at c ≡ at + 1
-unfolding behind
-behind_hit bytes at c h e = rw (lt-ltb at (length bytes) h, eq-eqb (byte_at bytes at) c e) refl
+-- a byte more of a word
+word_more : (word bytes : List ℕ) (at k : ℕ) → k < length word →
+    word_at (drop k word) bytes at ≡ (behind bytes at (get_or word k 0) >>= word_at (drop (k + 1) word) bytes)
+unfolding word_at and_then
+word_more word bytes at k h = rw (left word k h) (go (behind bytes at (get_or word k 0)))
+  where
+    go : (o : Option ℕ) → ((o >>= behind_all (drop (k + 1) word) bytes) >>= λ next. behind bytes next (code " ")) ≡ (o >>= word_at (drop (k + 1) word) bytes)
+    go None = refl
+    go (Some x) = refl
 
-pub behind_other : (bytes : List ℕ) (at c : ℕ) → at < length bytes → (byte_at bytes at ≡ c → ⊥) → behind bytes at c ≡ lost
-unfolding behind
-behind_other bytes at c h e = rw (lt-ltb at (length bytes) h, ne_eqb (byte_at bytes at) c e) refl
+pub word_on : (word bytes : List ℕ) (at k next : ℕ) → k < length word → behind bytes at (get_or word k 0) ≡ Some next →
+    word_at (drop k word) bytes at ≡ word_at (drop (k + 1) word) bytes next
+unfolding and_then
+word_on word bytes at k next h e = word_more word bytes at k h ∙ ap (λ o. o >>= word_at (drop (k + 1) word) bytes) e
 
-pub behind_past : (bytes : List ℕ) (at c : ℕ) → length bytes ≤ at → behind bytes at c ≡ lost
-unfolding behind
-behind_past bytes at c h = rw (le-ltb at (length bytes) h) refl
+pub word_off : (word bytes : List ℕ) (at k : ℕ) → k < length word → behind bytes at (get_or word k 0) ≡ None →
+    word_at (drop k word) bytes at ≡ None
+unfolding and_then
+word_off word bytes at k h e = word_more word bytes at k h ∙ ap (λ o. o >>= word_at (drop (k + 1) word) bytes) e
 
--- ---- digits
--- a turn of the loop is taken where a digit more is allowed and stands there
-pub another : (left c : ℕ) → (not (eqb left 0) && is_digit c) ≡ true → (1 ≤ left) × (is_digit c ≡ true)
-another zero c h = let z : ◌≡◌ {A = ℕ} 0 1 = cc in let no : ⊥ = omega (arith, z) in absurd no
-another (suc left) c h = (omega arith, rw (ne_eqb (suc left) 0 (λ e. omega (arith, e))) at h)
+pub word_end : (word bytes : List ℕ) (at k : ℕ) → length word ≤ k → word_at (drop k word) bytes at ≡ behind bytes at (code " ")
+unfolding word_at and_then
+word_end word bytes at k h = rw (drop_of_length-le word h) refl
 
-pub no_number_lem : (bytes : List ℕ) (at : ℕ) → is_digit (byte_at bytes at) ≡ false → number_at bytes at ≡ no_number
-unfolding number_at
-no_number_lem bytes at h = rw h refl
+-- ---- digits: k of them taken, of at most `most`
+pub digit_found : (bytes : List ℕ) (at d : ℕ) → digit_at bytes at ≡ Some d → (is_digit (byte_at bytes at) ≡ true) × (byte_at bytes at - code "0" ≡ d)
+unfolding digit_at
+digit_found bytes at d e = cond_some (is_digit (byte_at bytes at)) (byte_at bytes at - code "0") d e
 
-pub number_starts : (bytes : List ℕ) (at : ℕ) → is_digit (byte_at bytes at) ≡ true → number_at bytes at ≡ digits_at most_digits bytes at 0
-unfolding number_at
-number_starts bytes at h = rw h refl
+digit_missed : (bytes : List ℕ) (at : ℕ) → digit_at bytes at ≡ None → is_digit (byte_at bytes at) ≡ false
+unfolding digit_at
+digit_missed bytes at e = go (is_digit (byte_at bytes at)) e where
+  go : (b : Bool) → (if b then Some (byte_at bytes at - code "0") else None) ≡ None → b ≡ false
+  go true e = absurd (none-some _ (sym e))
+  go false e = refl
 
-pub digits_more : (left : ℕ) (bytes : List ℕ) (at v : ℕ) → 1 ≤ left → is_digit (byte_at bytes at) ≡ true → longer v (byte_at bytes at) ≤ greatest →
-    digits_at left bytes at v ≡ digits_at (left - 1) bytes (at + 1) (longer v (byte_at bytes at))
+-- one less is left
+less : (most k : ℕ) → k < most → most - k ≡ suc (most - (k + 1))
+less most k h = omega arith
+
+pub digits_on : (most k : ℕ) (bytes : List ℕ) (at v d : ℕ) → k < most → digit_at bytes at ≡ Some d → 10 * v + d ≤ greatest →
+    digits_at (most - k) bytes at v ≡ digits_at (most - (k + 1)) bytes (at + 1) (10 * v + d)
 unfolding digits_at
-digits_more zero bytes at v some h small = let no : ⊥ = omega (arith, some) in absurd no
-digits_more (suc left) bytes at v some h small = rw (h, le-leb (longer v (byte_at bytes at)) greatest small, sub-one (suc left)) refl
+digits_on most k bytes at v d h e l =
+    let f = digit_found bytes at d e in
+    rw (less most k h, f.0, f.1, le-leb (10 * v + d) greatest l) refl
 
-pub digits_too_great : (left : ℕ) (bytes : List ℕ) (at v : ℕ) → 1 ≤ left → is_digit (byte_at bytes at) ≡ true → greatest < longer v (byte_at bytes at) →
-    digits_at left bytes at v ≡ no_number
+pub digits_over : (most k : ℕ) (bytes : List ℕ) (at v d : ℕ) → k < most → digit_at bytes at ≡ Some d → greatest < 10 * v + d →
+    digits_at (most - k) bytes at v ≡ None
 unfolding digits_at
-digits_too_great zero bytes at v some h great = let no : ⊥ = omega (arith, some) in absurd no
-digits_too_great (suc left) bytes at v some h great = rw (h, lt-leb (longer v (byte_at bytes at)) greatest great) refl
+digits_over most k bytes at v d h e l =
+    let f = digit_found bytes at d e in
+    rw (less most k h, f.0, f.1, lt-leb (10 * v + d) greatest l) refl
 
-pub digits_end : (left : ℕ) (bytes : List ℕ) (at v : ℕ) → (not (eqb left 0) && is_digit (byte_at bytes at)) ≡ false →
-    digits_at left bytes at v ≡ record { value = v; next = at }
+pub digits_end : (most k : ℕ) (bytes : List ℕ) (at v : ℕ) → digit_at bytes at ≡ None → digits_at (most - k) bytes at v ≡ Some (record { value = v; next = at })
 unfolding digits_at
-digits_end zero bytes at v h = refl
-digits_end (suc left) bytes at v h = rw (same h) refl where
-  same : (not (eqb (suc left) 0) && is_digit (byte_at bytes at)) ≡ false → is_digit (byte_at bytes at) ≡ false
-  same h = rw (ne_eqb (suc left) 0 (λ e. omega (arith, e))) at h
+digits_end most k bytes at v e = go (most - k) where
+  go : (n : ℕ) → digits_at n bytes at v ≡ Some (record { value = v; next = at })
+  go zero = refl
+  go (suc n) = rw (digit_missed bytes at e) refl
 
--- ---- windows
-pub both_small : (low high : ℕ) → (leb low greatest && leb high greatest) ≡ true → (low ≤ greatest) × (high ≤ greatest)
-both_small low high h = go (leb low greatest) refl h where
-  go : (b : Bool) → leb low greatest ≡ b → (b && leb high greatest) ≡ true → (low ≤ greatest) × (high ≤ greatest)
-  go true e h = (leb-true low greatest e, leb-true high greatest h)
-  go false e h = let z : ◌≡◌ {A = ℕ} 0 1 = cc in let no : ⊥ = omega (arith, z) in absurd no
+pub digits_full : (most k : ℕ) (bytes : List ℕ) (at v : ℕ) → most ≤ k → digits_at (most - k) bytes at v ≡ Some (record { value = v; next = at })
+unfolding digits_at
+digits_full most k bytes at v h = let none : most - k ≡ 0 = omega arith in rw none refl

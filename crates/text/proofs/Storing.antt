@@ -1,30 +1,24 @@
 -- Words stored one behind the other: where all have room, they are their bytes, stored from the first place on.
 use mathlib.Core.Path.{◌≡◌, refl, sym, ◌∙◌}
-use mathlib.Core.List.{List, [], ◌∷◌}
-use Prim.Native.Nat.{ℕ, suc, ◌+◌, ◌*◌, ◌/◌, ◌%◌, ◌≤◌, ◌<◌}
+use mathlib.Core.List.{List, [], ◌∷◌, append_assoc}
+use Prim.Native.Nat.{ℕ, ◌+◌, ◌*◌, ◌≤◌}
 use native.Mathlib.Omega.{arith}
-use lib.ListN.{length, set}
-use lib.Seq.{sets}
-use borrow.Author.Tests.{le-leb, lt-leb}
+use lib.ListN.{length, take, drop}
+use lib.Seq.{sets, sets-eq}
+use borrow.Author.Tests.{le-leb}
+use Rattle.std.proofs.lemmas.List.{drop-drop}
+use borrow.Rule.Slice.PartMut.{put_mid}
 use Rattle.image.specs.Header.{most_bytes}
 use Rattle.image.proofs.Lists.{sets_append}
 use Rattle.grammar.specs.Layout.{le32, bytes_of}
 use Rattle.text.specs.Inside.Stores.{stored, stored_all, behind_words}
 
-pub no_room : (room : List ℕ) (at word : ℕ) → most_bytes < at + 4 → room ≡ stored room at word
+-- four bytes written over as many
+pub four_bytes : (room bytes : List ℕ) (at size word : ℕ) → bytes ≡ le32 word → size ≡ 4 → length room ≡ most_bytes → at + 4 ≤ most_bytes →
+    put_mid at size room bytes ≡ stored room at word
 unfolding stored
-no_room room at word h = rw (lt-leb (at + 4) most_bytes h) refl
-
--- four stores side by side
-pub four_bytes : (room : List ℕ) (at word : ℕ) → at + 4 ≤ most_bytes →
-    set (set (set (set room at (word % 256)) (at + 1) (word / 256 % 256)) (at + 2) (word / 65536 % 256)) (at + 3) (word / 16777216 % 256) ≡
-    stored room at word
-unfolding stored
-four_bytes room at word h =
-    let one : at + 1 ≡ suc at = omega arith in
-    let two : at + 2 ≡ suc (suc at) = omega arith in
-    let three : at + 3 ≡ suc (suc (suc at)) = omega arith in
-    rw (le-leb (at + 4) most_bytes h, one, two, three) refl
+four_bytes room bytes at size word same four long h =
+    rw (same, four, le-leb (at + 4) most_bytes h, sets-eq (le32 word) room at (omega arith), append_assoc (take at room) (le32 word) (drop (at + 4) room), drop-drop 4 at room) refl
 
 pub behind_words_lem : (at : ℕ) (words : List ℕ) → behind_words at words ≡ at + 4 * length words
 behind_words_lem at [] = omega arith

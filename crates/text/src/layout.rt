@@ -1,43 +1,41 @@
 // The image is laid out in a room for the largest. Lines come in the order of the tables, so each record goes behind the one before. Where a
 // text has more records than an image may have, those without room are only counted.
-ghost use Rattle.std.specs.Prelude.{◌≡◌, [], ◌∷◌, ◌+◌, ◌≤◌};
+ghost use Rattle.std.specs.Prelude.{◌≡◌, ◌+◌, ◌*◌, ◌≤◌, length};
 ghost use Rattle.grammar.specs.Inside.Rows.{words_of};
 ghost use Rattle.text.specs.Inside.Stores.{furthest, stored, stored_all, behind_words, words_in};
 ghost use Rattle.text.specs.Inside.Tally.{tallied, Few};
 
-use crate::tally::Tally;
+use crate::tally::{Stage, Tally};
 use grammar::Line;
 use image::{Header, Image};
 
 pub(crate) const MOST: usize = Image::MOST_BYTES as usize;
 
-// The last place at which a word has room.
-const LAST: usize = MOST - 4;
-
-// A word, and the place behind it.
-fn put(word: u32, at: usize, room: &mut [u8; MOST]) -> usize
+// A word, where it has room.
+#[tactic(auto, unfolding(crate::specs::Inside::Stores::stored))]
+fn put(word: u32, at: usize, room: &mut [u8; MOST])
     requires { at ≤ furthest }
-    ensures behind { result ≡ at + 4 }
-    ensures stored { room.new ≡ stored room.old at word }
+    ensures { room.new ≡ stored room.old at word }
 {
-    if LAST < at {
-        return at + 4;
+    if at + 4 <= MOST {
+        room[at..at + 4].copy_from_slice(&word.to_le_bytes());
     }
-    room[at] = (word % 256) as u8;
-    room[at + 1] = (word / 256 % 256) as u8;
-    room[at + 2] = (word / 65536 % 256) as u8;
-    room[at + 3] = (word / 16777216 % 256) as u8;
-    at + 4
 }
 
-// Two words, and the place behind them.
-fn put_two(first: u32, second: u32, at: usize, room: &mut [u8; MOST]) -> usize
-    requires { at + 4 ≤ furthest }
-    ensures behind { result ≡ behind_words at (first ∷ second ∷ []) }
-    ensures stored { room.new ≡ stored_all room.old at (first ∷ second ∷ []) }
+// Words one behind the other, and the place behind them, which is the answer.
+// Room and place stay two parameters. No plainer as a struct: that the place lies near enough follows from the lines counted (`Few`), so each method
+// would ask for what is asked here.
+fn put_all(words: &[u32], at: usize, room: &mut [u8; MOST]) -> usize
+    requires { at + 4 * length words.now ≤ furthest }
+    ensures behind { result ≡ behind_words at words.now }
+    ensures stored { room.new ≡ stored_all room.old at words.now }
 {
-    let next = put(first, at, room);
-    put(second, next, room)
+    let mut next = at;
+    for &word in words {
+        put(word, next, room);
+        next += 4;
+    }
+    next
 }
 
 // A line is counted, and its record put behind those before.
@@ -46,67 +44,60 @@ pub(crate) fn lay(line: Line, t: Tally, next: usize, room: &mut [u8; MOST]) -> T
     ensures counted { result ≡ tallied line t next }
     ensures laid { room.new ≡ stored_all room.old t.end (words_of line) }
 {
+    let counted = Tally {
+        at: next,
+        lines: t.lines + 1,
+        ..t
+    };
     match line {
         Line::Cycle(cycle) => Tally {
-            at: next,
-            lines: t.lines + 1,
-            stage: 1,
-            end: t.end,
+            stage: Stage::Phases,
             cycle,
-            phases: t.phases,
-            synchronizers: t.synchronizers,
-            arcs: t.arcs,
+            ..counted
         },
-        Line::Phase(phase) => {
-            let end = put_two(phase.closing, phase.active, t.end, room);
-            Tally {
-                at: next,
-                lines: t.lines + 1,
-                stage: 1,
-                end,
-                cycle: t.cycle,
-                phases: t.phases + 1,
-                synchronizers: t.synchronizers,
-                arcs: t.arcs,
-            }
-        }
+        Line::Phase(phase) => Tally {
+            stage: Stage::Phases,
+            end: put_all(&[phase.closing, phase.active], t.end, room),
+            phases: t.phases + 1,
+            ..counted
+        },
         Line::Synchronizer(synchronizer) => {
-            let end = put_two(synchronizer.phase, synchronizer.kind, t.end, room);
-            let end = put_two(synchronizer.setup, synchronizer.hold, end, room);
-            let end = put_two(synchronizer.least, synchronizer.greatest, end, room);
+            let words = [
+                synchronizer.phase,
+                synchronizer.kind,
+                synchronizer.setup,
+                synchronizer.hold,
+                synchronizer.least,
+                synchronizer.greatest,
+            ];
             Tally {
-                at: next,
-                lines: t.lines + 1,
-                stage: 2,
-                end,
-                cycle: t.cycle,
-                phases: t.phases,
+                stage: Stage::Synchronizers,
+                end: put_all(&words, t.end, room),
                 synchronizers: t.synchronizers + 1,
-                arcs: t.arcs,
+                ..counted
             }
         }
-        Line::Arc(arc) => {
-            let end = put_two(arc.from, arc.to, t.end, room);
-            let end = put_two(arc.least, arc.greatest, end, room);
-            Tally {
-                at: next,
-                lines: t.lines + 1,
-                stage: 3,
-                end,
-                cycle: t.cycle,
-                phases: t.phases,
-                synchronizers: t.synchronizers,
-                arcs: t.arcs + 1,
-            }
-        }
+        Line::Arc(arc) => Tally {
+            stage: Stage::Arcs,
+            end: put_all(&[arc.from, arc.to, arc.least, arc.greatest], t.end, room),
+            arcs: t.arcs + 1,
+            ..counted
+        },
     }
 }
 
 pub(crate) fn put_header(header: Header, room: &mut [u8; MOST])
     ensures { room.new ≡ stored_all room.old 0 (words_in header) }
 {
-    let end = put_two(header.version, header.cycle, 0, room);
-    let end = put_two(header.phases, header.synchronizers, end, room);
-    let end = put_two(header.arcs, header.phase_table, end, room);
-    put_two(header.synchronizer_table, header.arc_table, end, room);
+    let words = [
+        header.version,
+        header.cycle,
+        header.phases,
+        header.synchronizers,
+        header.arcs,
+        header.phase_table,
+        header.synchronizer_table,
+        header.arc_table,
+    ];
+    put_all(&words, 0, room);
 }

@@ -1,5 +1,6 @@
 // A written circuit made an image (docs/RULES.md). The grammar is in the crate `grammar`; each function here reads what a definition of
-// grammar's reader reads, at a place in the text.
+// grammar's reader reads, at a place in the text. Text and place stay two parameters, as in those definitions (`number_at`, `line_at` ..) and the laws on
+// them (`line_sound`, `line_complete`).
 // From below to above: scan, windows, lines, tally, layout, text_call. None uses a module above it.
 #![tactic(auto)]
 
@@ -10,4 +11,4 @@ mod tally;
 mod text_call;
 mod windows;
 
-pub use text_call::{LONGEST, Made, image_from_text};
+pub use text_call::{LONGEST, image_from_text};

@@ -1,72 +1,81 @@
-// Bytes and numbers at a place in a text. Where nothing was read, the place behind it is LOST, past every text: whatever is asked for next is not
-// found there either, so no caller asks after each step.
-ghost use Rattle.std.specs.Prelude.{◌≡◌};
-ghost use Rattle.grammar.specs.Inside.Reader.{behind, is_digit, number_at, field_at};
+// Bytes and numbers at a place in a text, with the place behind them; `None` where they do not stand there.
+ghost use Rattle.std.specs.Prelude.{◌≡◌, ◌+◌, ◌*◌, ◌≤◌, SomeIff};
+ghost use Rattle.grammar.specs.Numbers.{greatest};
+ghost use Rattle.grammar.specs.Inside.Reader.{behind, word_at, digit_at, number_at, field_at};
 
 use grammar::Number;
-use image::byte;
-
-pub(crate) const LOST: usize = 18_446_744_073_709_551_615;
 
 // No number and no end of a window is greater.
-pub(crate) const GREATEST: u64 = 1_000_000_000;
+pub(crate) const GREATEST: u32 = 1_000_000_000;
 
 const MOST_DIGITS: u32 = 10;
 
 // The place behind a byte that must stand there.
-pub(crate) fn after(text: &[u8], at: usize, c: u8) -> usize
+#[tactic(auto, unfolding(grammar::specs::Inside::Reader::behind))]
+pub(crate) fn after(text: &[u8], at: usize, c: u8) -> Option<usize>
     ensures { result ≡ behind text.now at c }
 {
-    if at < text.len() {
-        if text[at] == c {
-            return at + 1;
-        }
-    }
-    LOST
+    (*text.get(at)? == c).then_some(at + 1)
 }
 
-fn is_digit(c: u8) -> bool
-    ensures { result ≡ is_digit c }
+// The place behind a word and its space.
+pub(crate) fn after_word(text: &[u8], at: usize, word: &[u8]) -> Option<usize>
+    ensures { result ≡ word_at word.now text.now at }
 {
-    (b'0' <= c) & (c <= b'9')
+    let mut next = at;
+    for &c in word {
+        next = after(text, next, c)?;
+    }
+    after(text, next, b' ')
 }
 
-pub(crate) fn number(text: &[u8], at: usize) -> Number
+// What a digit counts. By a subtraction, and the next in wider numbers: with `to_digit`, `checked_mul` and `filter` a text of long numbers took 1.4 times
+// as long.
+#[tactic(auto, unfolding(grammar::specs::Inside::Reader::digit_at))]
+fn digit(text: &[u8], at: usize) -> Option<u32>
+    ensures { result ≡ digit_at text.now at }
+{
+    let c = *text.get(at)?;
+    if c.is_ascii_digit() {
+        Some(u32::from(c - b'0'))
+    } else {
+        None
+    }
+}
+
+// A number with one digit more, where it is within the limit.
+fn longer(value: u32, d: u32) -> Option<u32>
+    ensures { SomeIff result (10 * value + d ≤ greatest) (10 * value + d) }
+{
+    let value = 10 * u64::from(value) + u64::from(d);
+    if value <= u64::from(GREATEST) {
+        Some(value as u32)
+    } else {
+        None
+    }
+}
+
+#[tactic(auto, unfolding(grammar::specs::Inside::Reader::number_at, grammar::specs::Inside::Reader::digit_at))]
+pub(crate) fn number(text: &[u8], at: usize) -> Option<Number>
     ensures { result ≡ number_at text.now at }
 {
-    if !is_digit(byte(text, at)) {
-        return Number {
-            value: 0,
-            next: LOST,
-        };
-    }
-    let mut left = MOST_DIGITS;
+    digit(text, at)?;
     let mut next = at;
-    let mut value = 0u64;
-    while (left != 0) & is_digit(byte(text, next)) {
-        value = 10 * value + ((byte(text, next) - b'0') as u64);
-        if value > GREATEST {
-            return Number {
-                value: 0,
-                next: LOST,
-            };
-        }
-        next = next + 1;
-        left = left - 1;
+    let mut value = 0;
+    for _ in 0..MOST_DIGITS {
+        let Some(d) = digit(text, next) else { break };
+        value = longer(value, d)?;
+        next += 1;
     }
-    Number {
-        value: value as u32,
-        next,
-    }
+    Some(Number { value, next })
 }
 
 // A number and the byte behind it.
-pub(crate) fn field(text: &[u8], at: usize, c: u8) -> Number
+#[tactic(auto, unfolding(grammar::specs::Inside::Reader::field_at, grammar::specs::Inside::Reader::and_then))]
+pub(crate) fn field(text: &[u8], at: usize, c: u8) -> Option<Number>
     ensures { result ≡ field_at text.now at c }
 {
-    let n = number(text, at);
-    Number {
-        value: n.value,
-        next: after(text, n.next, c),
-    }
+    let n = number(text, at)?;
+    let next = after(text, n.next, c)?;
+    Some(Number { next, ..n })
 }

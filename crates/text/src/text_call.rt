@@ -1,96 +1,80 @@
 // From a text to an image, or to what it is refused for.
 ghost use Rattle.text.specs.TextPromise.{TextCall};
-ghost use Rattle.std.specs.Prelude.{◌≡◌, ◌≤◌, ◌<◌, length, replicate};
+ghost use Rattle.std.specs.Prelude.{◌≡◌, ◌≤◌, ◌<◌, length, replicate, MatchOption, MatchResult};
 ghost use Rattle.image.specs.Header.{most_bytes};
 ghost use Rattle.text.specs.Inside.Handed.{Handed};
-ghost use Rattle.grammar.specs.Text.{rank, longest_text};
+ghost use Rattle.grammar.specs.Text.{rank, longest_text, Fault};
 ghost use Rattle.grammar.specs.Inside.Reader.{in_place};
-ghost use Rattle.text.specs.Inside.Tally.{Few, SoFar, header_from};
+ghost use Rattle.text.specs.Inside.Tally.{stage_number, Few, SoFar, Done, Faulty, header_from};
 
 use crate::layout::{MOST, lay, put_header};
 use crate::lines::read_line;
-use crate::scan::LOST;
-use crate::tally::Tally;
+use crate::tally::{Stage, Tally};
 use grammar::Line;
-use image::{Checked, Header, Image, Part, bad_counts, bad_cycle, check};
-
-// An image of so many bytes; or the number of refusal (docs/RULES.md), with the line or the record at fault.
-#[derive(Clone, Copy)]
-pub enum Made {
-    Image(u32),
-    Refused(u32, u32),
-}
+use image::{Header, Image, Part, Refusal, Rule, bad_counts, bad_cycle, check};
 
 // The most bytes of a text.
 pub const LONGEST: usize = 32_768;
 
-fn rank_of(line: Line) -> u32
-    ensures { result ≡ rank line }
+// The stage at which lines of that kind begin. No `From`: a line is more than its stage.
+fn rank_of(line: Line) -> Stage
+    ensures { stage_number result ≡ rank line }
 {
     match line {
-        Line::Cycle(_) => 0,
-        Line::Phase(_) => 1,
-        Line::Synchronizer(_) => 2,
-        Line::Arc(_) => 3,
+        Line::Cycle(_) => Stage::Start,
+        Line::Phase(_) => Stage::Phases,
+        Line::Synchronizer(_) => Stage::Synchronizers,
+        Line::Arc(_) => Stage::Arcs,
     }
 }
 
 // May a line stand next?
-fn in_place(stage: u32, line: Line) -> bool
-    ensures { result ≡ in_place stage line }
+fn in_place(stage: Stage, line: Line) -> bool
+    ensures { result ≡ in_place (stage_number stage) line }
 {
-    if stage == 0 {
-        rank_of(line) == 0
+    if stage == Stage::Start {
+        rank_of(line) == Stage::Start
     } else {
         stage <= rank_of(line)
     }
 }
 
-// The next line. Where none may stand next, nothing changes but the place.
-fn take_line(text: &[u8], t: Tally, room: &mut [u8; MOST]) -> Tally
+// The next line; `None` where none may stand next.
+fn take_line(text: &[u8], t: Tally, room: &mut [u8; MOST]) -> Option<Tally>
     requires { (length text.now ≤ longest_text) × (t.at < length text.now) × SoFar text.now t room.old }
-    ensures onward { t.at < result.at }
-    ensures reached { SoFar text.now result room.new }
+    ensures { MatchOption result (Fault text.now t.lines) (λ u. (t.at < u.at) × SoFar text.now u room.new) }
 {
-    let read = read_line(text, t.at);
-    let line = read.line;
-    if (read.next != LOST) & in_place(t.stage, line) {
-        return lay(line, t, read.next, room);
-    }
-    Tally {
-        at: LOST,
-        lines: t.lines,
-        stage: t.stage,
-        end: t.end,
-        cycle: t.cycle,
-        phases: t.phases,
-        synchronizers: t.synchronizers,
-        arcs: t.arcs,
+    let read = read_line(text, t.at)?;
+    if in_place(t.stage, read.line) {
+        Some(lay(read.line, t, read.next, room))
+    } else {
+        None
     }
 }
 
-fn read_lines(text: &[u8], room: &mut [u8; MOST]) -> Tally
+// All lines to the end of the text, or the lowest at fault. A text with no line is at fault too.
+fn read_lines(text: &[u8], room: &mut [u8; MOST]) -> Result<Tally, Refusal>
     requires { (length text.now ≤ longest_text) × (room.old ≡ replicate most_bytes 0) }
-    ensures whole { length text.now ≤ result.at }
-    ensures reached { SoFar text.now result room.new }
+    ensures { MatchResult result (λ t. Done text.now t room.new) (λ why. Faulty text.now why) }
 {
     let mut t = Tally {
-        at: 0,
-        lines: 0,
-        stage: 0,
         end: Image::HEADER_BYTES as usize,
-        cycle: 0,
-        phases: 0,
-        synchronizers: 0,
-        arcs: 0,
+        ..Tally::default()
     };
     while t.at < text.len() {
-        t = take_line(text, t, room);
+        let Some(next) = take_line(text, t, room) else {
+            return Err(Rule::Text.at(t.lines));
+        };
+        t = next;
     }
-    t
+    if t.stage == Stage::Start {
+        Err(Rule::Text.at(t.lines))
+    } else {
+        Ok(t)
+    }
 }
 
-// What the header of an image with those counts says. An offset is far from what a word holds.
+// What the header of an image with those counts says. An offset is far from what a word holds. No `From`: a conversion asks nothing, and this asks `Few`.
 fn header_of(t: Tally) -> Header
     requires { Few t }
     ensures { result ≡ header_from t }
@@ -113,40 +97,34 @@ fn header_of(t: Tally) -> Header
 }
 
 // Checks an image that has been laid out, and hands it over where the buffer is long enough.
-fn hand_over(bytes: &[u8], image: &mut [u8]) -> Made
+fn hand_over(bytes: &[u8], image: &mut [u8]) -> Result<u32, Refusal>
     requires { length bytes.now ≤ most_bytes }
     ensures { Handed bytes.now image.old result image.new }
 {
-    match check(bytes) {
-        Checked::Refused(rule, record) => Made::Refused(rule, record),
-        Checked::Good(_) => {
-            if image.len() < bytes.len() {
-                return Made::Refused(16, 0);
-            }
-            image[..bytes.len()].copy_from_slice(bytes);
-            Made::Image(bytes.len() as u32)
-        }
+    check(bytes)?;
+    if image.len() < bytes.len() {
+        return Err(Rule::ImageBuffer.into());
     }
+    image[..bytes.len()].copy_from_slice(bytes);
+    Ok(bytes.len() as u32)
 }
 
+// How many bytes the image has; or the rule that refuses the text, with the line or the record at fault.
 // Rules 3 and 4 are asked before there is an image, since there is no room for one that they refuse; all others are the check's.
-pub fn image_from_text(text: &[u8], image: &mut [u8]) -> Made
+pub fn image_from_text(text: &[u8], image: &mut [u8]) -> Result<u32, Refusal>
     ensures { TextCall text.now image.old result image.new }
 {
     if LONGEST < text.len() {
-        return Made::Refused(15, 0);
+        return Err(Rule::Text.into());
     }
     let mut room = [0u8; MOST];
-    let t = read_lines(text, &mut room);
-    if (t.at != text.len()) | (t.stage == 0) {
-        return Made::Refused(15, t.lines);
-    }
+    let t = read_lines(text, &mut room)?;
     let header = header_of(t);
     if bad_cycle(header) {
-        return Made::Refused(3, 0);
+        return Err(Rule::Cycle.into());
     }
     if bad_counts(header) {
-        return Made::Refused(4, 0);
+        return Err(Rule::Counts.into());
     }
     put_header(header, &mut room);
     let end = t.end;

@@ -1,7 +1,8 @@
 -- What is loaded of a synchronizer, from what was read of it and of its phase.
+use mathlib.Core.Bool.{true, false}
 use mathlib.Core.Path.{◌≡◌, ap, ◌∙◌}
 use mathlib.Core.List.{List}
-use Prim.Native.Nat.{ℕ, ◌+◌, ◌-◌, ◌≤◌, ◌<◌}
+use Prim.Native.Nat.{ℕ, ◌+◌, ◌-◌, ◌<◌}
 use lib.IntN.{pos}
 use borrow.Author.Tests.{eq-eqb, ne_eqb}
 use Rattle.ticks.specs.Inside.Raised.{RAISE}
@@ -33,14 +34,8 @@ module _ {bytes : List ℕ} (v : Valid bytes) {image : Image} (same : image ≡ 
   pub noted_known : (r.phase ≡ (circuit_of bytes).phase i) × (r.least ≡ (circuit_of bytes).least i) × (r.greatest ≡ (circuit_of bytes).greatest i)
   noted_known = let k = of_synchronizer bytes image same of in (k.phase, k.least, k.greatest)
 
-  pub active_known : {x : ℕ} → x ≡ (circuit_of bytes).active r.phase → (x ≤ image.cycle) × (x ≤ 1000000000)
-  active_known e =
-      let n = (counts bytes image same).cycle in
-      let u = (sound bytes v).active r.phase phase_known.0 in
-      (omega ints, omega (ints, (sound bytes v).cycle))
-
   pub launched_latch : r.kind ≡ 0 → {x : ℕ} → x ≡ (circuit_of bytes).active r.phase →
-      Launched (circuit_of bytes) i (RAISE + image.cycle - x) 1
+      Launched (circuit_of bytes) i (RAISE + image.cycle - x) true
   unfolding is_latch opening launch
   launched_latch h {x} read =
       let c = circuit_of bytes in
@@ -54,7 +49,7 @@ module _ {bytes : List ℕ} (v : Valid bytes) {image : Image} (same : image ≡ 
         latch = rw (eq-eqb _ _ e);
       }
 
-  pub launched_flop : (r.kind ≡ 0 → ⊥) → Launched (circuit_of bytes) i (RAISE + image.cycle) 0
+  pub launched_flop : (r.kind ≡ 0 → ⊥) → Launched (circuit_of bytes) i (RAISE + image.cycle) false
   unfolding is_latch launch
   launched_flop h =
       let c = circuit_of bytes in

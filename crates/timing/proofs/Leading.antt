@@ -16,6 +16,7 @@ use Rattle.circuit.specs.Clock.{across, delay, weight}
 use Rattle.circuit.proofs.Sound.{sound}
 use Rattle.circuit.proofs.Shifts.{tick_below}
 use Rattle.circuit.proofs.Ranges.{across_range}
+use Rattle.timing.specs.declared.load.Notes.{Notes}
 use Rattle.timing.specs.Inside.Loaded.{Noted, shift_of, LeadOf, LoadedArc}
 use Rattle.timing.proofs.RecordsRead.{OfArc, counts, of_arc, most_phases_lem}
 use Rattle.timing.proofs.Shifts.{shifted}
@@ -40,8 +41,7 @@ pub record Ends (cycle : ℕ) (r : Arc) (p q x low high : ℕ) : Type 0 where
   pub early : low + r.least ≤ 2000000000
 
 module _ {bytes : List ℕ} (v : Valid bytes) {image : Image} (same : image ≡ image_in bytes) {a : ℕ} (l : a < image.arcs)
-    {r : Arc} (of : r ≡ arc_at bytes image.layout a) {ticks phases leasts greatests : List ℕ}
-    (n : Noted (circuit_of bytes) ticks phases leasts greatests) where
+    {r : Arc} (of : r ≡ arc_at bytes image.layout a) {notes : Notes} (n : Noted (circuit_of bytes) notes) where
   here : a < (circuit_of bytes).arcs
   here = omega (arith, (counts bytes image same).arcs)
 
@@ -54,20 +54,20 @@ module _ {bytes : List ℕ} (v : Valid bytes) {image : Image} (same : image ≡ 
   enters : (circuit_of bytes).to a < (circuit_of bytes).synchronizers
   enters = (sound bytes v).to a here
 
-  left_is : get_or phases r.from 0 ≡ (circuit_of bytes).phase ((circuit_of bytes).from a)
+  left_is : get_or notes.phase r.from 0 ≡ (circuit_of bytes).phase ((circuit_of bytes).from a)
   left_is = rw arc_is.from (n.phase.holds ((circuit_of bytes).from a) leaves)
 
-  entered_is : get_or phases r.to 0 ≡ (circuit_of bytes).phase ((circuit_of bytes).to a)
+  entered_is : get_or notes.phase r.to 0 ≡ (circuit_of bytes).phase ((circuit_of bytes).to a)
   entered_is = rw arc_is.to (n.phase.holds ((circuit_of bytes).to a) enters)
 
-  least_is : get_or leasts r.from 0 ≡ (circuit_of bytes).least ((circuit_of bytes).from a)
+  least_is : get_or notes.least r.from 0 ≡ (circuit_of bytes).least ((circuit_of bytes).from a)
   least_is = rw arc_is.from (n.least.holds ((circuit_of bytes).from a) leaves)
 
-  greatest_is : get_or greatests r.from 0 ≡ (circuit_of bytes).greatest ((circuit_of bytes).from a)
+  greatest_is : get_or notes.greatest r.from 0 ≡ (circuit_of bytes).greatest ((circuit_of bytes).from a)
   greatest_is = rw arc_is.from (n.greatest.holds ((circuit_of bytes).from a) leaves)
 
-  pub ends_known : Ends image.cycle r (get_or phases r.from 0) (get_or phases r.to 0) (get_or ticks (get_or phases r.from 0) 0) (get_or leasts r.from 0)
-      (get_or greatests r.from 0)
+  pub ends_known : Ends image.cycle r (get_or notes.phase r.from 0) (get_or notes.phase r.to 0) (get_or notes.ticks (get_or notes.phase r.from 0) 0) (get_or notes.least r.from 0)
+      (get_or notes.greatest r.from 0)
   ends_known =
       let c = sound bytes v in
       let p = c.phase _ leaves in
@@ -86,7 +86,7 @@ module _ {bytes : List ℕ} (v : Valid bytes) {image : Image} (same : image ≡ 
   target_known = arc_is.to
 
   -- x is worked out from the ticks at which the two phases close
-  module _ {x : ℕ} (worked : x ≡ shift_of image.cycle (get_or ticks (get_or phases r.from 0) 0) (get_or ticks (get_or phases r.to 0) 0)) where
+  module _ {x : ℕ} (worked : x ≡ shift_of image.cycle (get_or notes.ticks (get_or notes.phase r.from 0) 0) (get_or notes.ticks (get_or notes.phase r.to 0) 0)) where
     shift_is : pos x ≡ across (circuit_of bytes) a
     shift_is =
         let c = sound bytes v in
@@ -99,8 +99,8 @@ module _ {bytes : List ℕ} (v : Valid bytes) {image : Image} (same : image ≡ 
         let n = (counts bytes image same).cycle in
         (omega (ints, shift_is, (across_range (circuit_of bytes) (sound bytes v) a here).high), omega (arith, (sound bytes v).cycle))
 
-    pub led_known : LoadedArc (circuit_of bytes) a r.from (get_or greatests r.from 0 + r.greatest + (image.cycle - x))
-        (get_or leasts r.from 0 + r.least + (image.cycle - x))
+    pub led_known : LoadedArc (circuit_of bytes) a r.from (get_or notes.greatest r.from 0 + r.greatest + (image.cycle - x))
+        (get_or notes.least r.from 0 + r.least + (image.cycle - x))
     unfolding delay
     led_known =
         let n = (counts bytes image same).cycle in
@@ -108,6 +108,6 @@ module _ {bytes : List ℕ} (v : Valid bytes) {image : Image} (same : image ≡ 
         let b = rw n at back_known.0 in
         rw n (record {
           source = arc_is.from;
-          late = leads late (circuit_of bytes) a (get_or greatests r.from 0 + r.greatest) x (rw (greatest_is, arc_is.greatest)) ends_known.late c shift_is b;
-          early = leads early (circuit_of bytes) a (get_or leasts r.from 0 + r.least) x (rw (least_is, arc_is.least)) ends_known.early c shift_is b;
+          late = leads late (circuit_of bytes) a (get_or notes.greatest r.from 0 + r.greatest) x (rw (greatest_is, arc_is.greatest)) ends_known.late c shift_is b;
+          early = leads early (circuit_of bytes) a (get_or notes.least r.from 0 + r.least) x (rw (least_is, arc_is.least)) ends_known.early c shift_is b;
         })

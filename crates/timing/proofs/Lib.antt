@@ -1,7 +1,8 @@
 -- The laws that timing's proofs share. A function's own proof is in a folder of its name: its answers stand in its last lines, in the order of its
 -- needs, and `(λ c. search needs)` answers a need that antt's search finds by itself.
 -- walks over arcs, and passes
-pub mod Reach
+pub mod Sweepable
+pub mod WebShape
 pub mod Zeros
 -- loading
 pub mod RecordsRead
@@ -12,7 +13,6 @@ pub mod OneMoreLoaded
 pub mod Splitting
 pub mod LoadedTables
 -- results
-pub mod Arrivals
 pub mod Entering
 pub mod SixResults
 pub mod Slack

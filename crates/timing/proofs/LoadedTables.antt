@@ -1,10 +1,11 @@
 -- The loaded tables hold the circuit's flows, late and early, and stay within their bounds.
-use mathlib.Core.Path.{◌≡◌}
+use mathlib.Core.Path.{◌≡◌, ap, ◌∙◌}
+use mathlib.Core.Bool.{Bool}
 use mathlib.Core.List.{List}
-use Prim.Native.Nat.{ℕ, ◌+◌, ◌≤◌, ◌<◌}
+use Prim.Native.Nat.{ℕ, ◌+◌, ◌<◌}
 use native.Mathlib.Omega.{arith}
-use lib.ListN.{length, get_or}
-use Rattle.image.specs.Valid.{Valid, image_in}
+use lib.ListN.{get_or}
+use Rattle.image.specs.Valid.{Valid}
 use Rattle.image.specs.declared.header.Image.{Image}
 use Rattle.ticks.specs.Inside.Raised.{RAISE}
 use Rattle.ticks.proofs.Ints.{ints}
@@ -14,12 +15,14 @@ use Rattle.circuit.specs.Circuit.{Circuit, circuit_of}
 use Rattle.circuit.specs.Clock.{flow}
 use Rattle.circuit.proofs.Sound.{sound}
 use Rattle.circuit.proofs.Ranges.{launch_range}
-use Rattle.tables.specs.Inside.Net.{Net, times_of, arcs_of, net_of, web_of, Shaped}
-use Rattle.tables.specs.Inside.Models.{Models}
-use Rattle.tables.specs.Inside.Raise.{Room, Sweepable}
-use Rattle.timing.specs.Inside.Loaded.{LeadOf, LoadedArcs, Loaded, leads_of}
-use Rattle.timing.proofs.RecordsRead.{counts}
-use Rattle.tables.specs.Inside.Sizes.{NODES, RAISES}
+use Rattle.tables.specs.Inside.Net.{side_of, times_of, arcs_of, web_of, Shaped}
+use Rattle.tables.specs.Inside.Models.{HoldsArcs}
+use Rattle.tables.specs.Inside.Raise.{Room}
+use Rattle.tables.specs.Inside.Sizes.{RAISES}
+use Rattle.timing.specs.Inside.Loaded.{LeadOf, LoadedNodes, LoadedArcs, Loaded, leads_of}
+use Rattle.timing.specs.Inside.Web.{side_in, arcs_in, MadeOf}
+use Rattle.timing.specs.declared.web.Web.{Web}
+use Rattle.timing.proofs.RecordsRead.{Accepted}
 
 -- the leads of either side
 leads_held : (s : Side) {c : Circuit} {sources lates earlies : List ℕ} → LoadedArcs c sources lates earlies → (a : ℕ) → a < c.arcs →
@@ -27,31 +30,21 @@ leads_held : (s : Side) {c : Circuit} {sources lates earlies : List ℕ} → Loa
 leads_held late t a l = (t.each a l).late
 leads_held early t a l = (t.each a l).early
 
--- the tables of one side
-abbrev pub side : Side → Image → List ℕ → List ℕ → List ℕ → List ℕ → List ℕ → List ℕ → Net
-side s image sources lates earlies first launches latches =
-    net_of (arcs_of sources (leads_of s lates earlies) image.cycle) first launches latches
+-- the tables of one side hold the circuit's flow of that side
+pub record Held (s : Side) (c : Circuit) (launches : List ℕ) (w : Web) : Type 0 where
+  pub side : side_in w ≡ s
+  pub nodes : w.nodes ≡ c.synchronizers
+  pub arcs : HoldsArcs (arcs_in w) (times_of w.first.now) (flow s c)
+  pub launched : LoadedNodes c launches w.latch.now
 
-module _ {bytes : List ℕ} (v : Valid bytes) {image : Image} (same : image ≡ image_in bytes)
-    {sources lates earlies first launches latches : List ℕ} (t : Loaded (circuit_of bytes) sources lates earlies first launches latches) where
+module _ {bytes : List ℕ} {image : Image} (ok : Accepted bytes image)
+    {sources lates earlies first launches : List ℕ} {latches : List Bool} (t : Loaded (circuit_of bytes) sources lates earlies first launches latches) where
+  -- what the tables of one side are made of
   module _ (s : Side) where
-    pub models : Models (side s image sources lates earlies first launches latches) (flow s (circuit_of bytes))
-    models = rw (counts bytes image same).cycle (record {
-      arcs = record {
-        source = λ a l. (t.arcs.each a l).source;
-        weight = λ a l. (leads_held s t.arcs a l).weight;
-        small = λ a l. (leads_held s t.arcs a l).small;
-        cycle = omega (arith, (sound bytes v).cycle);
-        into = t.firsts.into;
-      };
-      launch = λ i l. (t.nodes.each i l).launch;
-      latch = λ i l. (t.nodes.each i l).latch;
-    })
-
-    web_shape : Shaped (web_of (arcs_of sources (leads_of s lates earlies) image.cycle) first latches) image.synchronizers image.arcs
-    web_shape =
-        let c = sound bytes v in
-        let n = counts bytes image same in
+    pub shape : Shaped (web_of (arcs_of sources (leads_of s lates earlies) image.cycle) first latches) image.synchronizers image.arcs
+    shape =
+        let c = sound bytes ok.valid in
+        let n = ok.counts in
         rw (n.cycle, n.synchronizers, n.arcs) (record {
           nodes = c.synchronizers;
           count = c.arcs;
@@ -61,35 +54,33 @@ module _ {bytes : List ℕ} (v : Valid bytes) {image : Image} (same : image ≡ 
           cycle = omega (arith, c.cycle);
         })
 
-    -- with launches the shape is the same
-    pub shape : Shaped (side s image sources lates earlies first launches latches) image.synchronizers image.arcs
-    shape =
-        let h = web_shape in
-        record { nodes = h.nodes; count = h.count; sources = h.sources; rises = h.rises; ends = h.ends; cycle = h.cycle }
+    pub leads_small : (a : ℕ) → a < image.arcs → get_or (leads_of s lates earlies) a 0 < RAISE
+    leads_small a l = (leads_held s t.arcs a (rw (← ok.counts.arcs) l)).small
 
-    -- leads are small
-    pub sweepable : Sweepable (web_of (arcs_of sources (leads_of s lates earlies) image.cycle) first latches) image.synchronizers
-    sweepable = record {
-      arcs = image.arcs;
-      shaped = web_shape;
-      leads = rw (counts bytes image same).arcs (λ a l. (leads_held s t.arcs a l).small);
-    }
+  pub held : {is_late : Bool} {w : Web} → MadeOf is_late image sources (leads_of (side_of is_late) lates earlies) first latches w →
+      Held (side_of is_late) (circuit_of bytes) launches w
+  held {is_late} m = record {
+    side = ap side_of m.late;
+    nodes = m.nodes ∙ ok.counts.synchronizers;
+    arcs = rw (m.source, m.lead, m.cycle, m.first, ok.counts.cycle) (record {
+      source = λ a l. (t.arcs.each a l).source;
+      weight = λ a l. (leads_held (side_of is_late) t.arcs a l).weight;
+      small = λ a l. (leads_held (side_of is_late) t.arcs a l).small;
+      cycle = omega (arith, (sound bytes ok.valid).cycle);
+      into = t.firsts.into;
+    });
+    launched = rw m.latch t.nodes;
+  }
 
-  -- launches lie between 0 and the cycle, raised
-  room : Room image.synchronizers RAISES (times_of launches)
-  room =
-      let c = circuit_of bytes in
-      let v' = sound bytes v in
-      rw (counts bytes image same).synchronizers (record {
-        low = λ i l. le-lower RAISE (get_or launches i 0) (rw (t.nodes.each i l).launch (omega (ints, span RAISE, (launch_range c v' i l).low)));
-        high = λ i l.
-            let h = le-lower (get_or launches i 0) (RAISE + 1000000000)
-            (rw ((t.nodes.each i l).launch, lower_raise 1000000000) (omega (ints, (launch_range c v' i l).high, v'.cycle))) in
-            omega arith;
-      })
-
-  -- all that `rise` asks, with a buffer that has room for `size` arcs
-  pub raisable : (s : Side) {size : ℕ} → (circuit_of bytes).synchronizers ≤ size →
-      (Sweepable (web_of (arcs_of sources (leads_of s lates earlies) image.cycle) first latches) image.synchronizers × (image.synchronizers ≤ size))
-      × (Room image.synchronizers RAISES (times_of launches) × (length launches ≡ NODES))
-  raisable s h = ((sweepable s, omega (arith, (counts bytes image same).synchronizers)), (room, t.nodes.long.0))
+-- launches lie between 0 and the cycle, raised
+pub room : {bytes launches : List ℕ} → Valid bytes → {s : Side} {w : Web} → Held s (circuit_of bytes) launches w → Room w.nodes RAISES (times_of launches)
+room {bytes} {launches} v h =
+    let c = circuit_of bytes in
+    let v' = sound bytes v in
+    rw h.nodes (record {
+      low = λ i l. le-lower RAISE (get_or launches i 0) (rw (h.launched.each i l).launch (omega (ints, span RAISE, (launch_range c v' i l).low)));
+      high = λ i l.
+          let k = le-lower (get_or launches i 0) (RAISE + 1000000000)
+          (rw ((h.launched.each i l).launch, lower_raise 1000000000) (omega (ints, (launch_range c v' i l).high, v'.cycle))) in
+          omega arith;
+    })

@@ -24,6 +24,8 @@ use Rattle.tables.specs.Inside.Listing.{Order}
 use Rattle.tables.specs.Inside.Passing.{Onward, Passing, Climbing, OfFlows, Never, Ended, ringed}
 use Rattle.tables.proofs.Raising.{passed_round, room_ranged}
 use Rattle.tables.proofs.Climbing.{climb_more, climb_calm}
+use Rattle.std.specs.Prelude.{Option, None, Some}
+use Rattle.timing.specs.declared.ring.Ring.{Ring}
 use Rattle.timing.specs.Inside.Ring.{leads, turned, Climbs, Looped, Short, Closed, short, ring}
 use Rattle.timing.proofs.WalkBackArcs.{turned_length}
 use Rattle.timing.proofs.WalkBack.{walk_line}
@@ -117,18 +119,17 @@ module _ {s : Side} {n : Net} {l : ℕ} (t : Sweepable n l) {base : ℕ → ℕ}
     ranged = room_ranged now_at.room
 
     -- the search, from the node that was raised last
-    abbrev Searched : ℕ → ℤ → List ℕ → List ℕ → Type 0
+    abbrev Searched : Option Ring → List ℕ → List ℕ → Type 0
     Searched = Closed (noted n (times_of parents') base (times_of after)) n.arcs.lead n.arcs.cycle l last (k + 1)
 
-    -- a ring was counted
-    pub closed_ringed : {count : ℕ} {gain : ℤ} {lent left : List ℕ} → Searched count gain lent left → 0 < count → Ended s n l base after count gain lent left
-    closed_ringed (short h) some = let z : ⊥ = omega arith in absurd z
-    closed_ringed (ring r) some = ringed some (λ launch f good models same. looped_shown t now_at.course ranged good models same r)
+    -- a ring was found
+    pub closed_ringed : {r : Ring} {lent left : List ℕ} → Searched (Some r) lent left → Ended s n l base after r.count r.gain lent left
+    closed_ringed (ring o) =
+        ringed (omega (arith, o.turned.counted, o.turned.repeats.order)) (λ launch f good models same. looped_shown t now_at.course ranged good models same o)
 
     -- none was: the buffer stays, and after pass l that cannot be
-    pub closed_open : {count : ℕ} {gain : ℤ} {lent left : List ℕ} → Searched count gain lent left → count ≡ 0 → (left ≡ lent) × (k + 1 ≡ l → Never s n l base)
-    closed_open (ring r) e = let z : ⊥ = omega (arith, r.turned.counted, r.turned.repeats.order) in absurd z
-    closed_open (short h) e = (refl, λ q. never s c.passed now_at.onward (omega arith) (h q))
+    pub closed_open : {lent left : List ℕ} → Searched None lent left → (left ≡ lent) × (k + 1 ≡ l → Never s n l base)
+    closed_open (short h) = (refl, λ q. never s c.passed now_at.onward (omega arith) (h q))
       where
         never : (s : Side) → Passed s n l base k (times_of departs) → Onward s n l base (times_of after) → l ≡ suc k →
             Short (noted n (times_of parents') base (times_of after)) l last → Never s n l base

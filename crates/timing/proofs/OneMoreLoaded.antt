@@ -9,8 +9,8 @@ use borrow.Author.Count.{below_more}
 use Rattle.circuit.specs.Circuit.{Circuit}
 use Rattle.tables.specs.Inside.Filled.{Filled}
 use Rattle.tables.proofs.Filled.{fill_more}
-use Rattle.timing.specs.Inside.Loaded.{Launched, NodesUpTo, LoadedArc, ArcsUpTo}
-use Rattle.tables.specs.Inside.Sizes.{ARCS, NODES}
+use Rattle.timing.specs.Inside.Loaded.{LoadedArc, ArcsUpTo}
+use Rattle.tables.specs.Inside.Sizes.{ARCS}
 
 pub kept : (l : List ℕ) (n v j : ℕ) → j < n → get_or (set l n v) j 0 ≡ get_or l j 0
 kept l n v j h = get_or-set_other l n j v 0 (λ e. omega arith)
@@ -20,15 +20,6 @@ stored l n v h = get_or-set_same l n v 0 h
 
 pub sized : (l : List ℕ) (n v m : ℕ) → length l ≡ m → length (set l n v) ≡ m
 sized l n v m e = length-set l n v ∙ e
-
-pub nodes_more : {c : Circuit} {n : ℕ} {launches latches : List ℕ} {x y : ℕ} → NodesUpTo n c launches latches → n < NODES → Launched c n x y →
-    NodesUpTo (n + 1) c (set launches n x) (set latches n y)
-nodes_more {n = n} {launches} {latches} {x} {y} t l new = record {
-  long = (sized launches n x NODES t.long.0, sized latches n y NODES t.long.1);
-  each = below_more _ n
-      (λ i h. rw (kept launches n x i h, kept latches n y i h) (t.each i h))
-      (rw (stored launches n x (omega (arith, t.long.0)), stored latches n y (omega (arith, t.long.1))) new);
-}
 
 pub arcs_more : {c : Circuit} {n : ℕ} {sources lates earlies : List ℕ} {x y z : ℕ} → ArcsUpTo n c sources lates earlies → n < ARCS →
     LoadedArc c n x y z →

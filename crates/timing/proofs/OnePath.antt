@@ -1,9 +1,10 @@
 -- The promise of the path question leaves one outcome, and there always is one. The cases are told apart by questions asked in order:
 -- is the image refused, are there too few places, is there no such synchronizer, no arc into it, a growing ring? The first that is
 -- answered with yes is one number, and within a case everything that is left follows from the input.
-use mathlib.Core.Path.{◌≡◌, refl, sym, ◌∙◌}
+use mathlib.Core.Path.{◌≡◌, refl, sym, ap, ◌∙◌}
 use mathlib.Core.List.{List, ◌++◌}
 use mathlib.Core.Logic.{inl, inr}
+use Rattle.std.specs.Prelude.{Result, Ok, Err}
 use Prim.Native.Nat.{ℕ, zero, suc, ◌≤◌, ◌<◌}
 use native.Mathlib.Omega.{arith}
 use native.Mathlib.Decide.{dec_lt, ℕ_discrete}
@@ -11,9 +12,12 @@ use lib.IntN.{ℤ}
 use lib.ListN.{length, drop}
 use Rattle.image.specs.Checks.{check_of}
 use Rattle.image.specs.Valid.{image_in}
-use Rattle.image.specs.declared.checks.Checked.TheVariants as check
-use Rattle.image.specs.declared.checks.Checked.{Checked}
+use Rattle.image.specs.Refusal.{refusal}
+use Rattle.image.specs.declared.header.Image.{Image}
+use Rattle.image.specs.declared.refusal.Rule.TheVariants as by
+use Rattle.image.specs.declared.refusal.Refusal.{Refusal}
 use Rattle.image.proofs.Validity.{accepts, accepted_is}
+use Rattle.image.proofs.Alike.{err_is_not_ok}
 use Rattle.flow.specs.Flow.{Good, late, Least}
 use Rattle.flow.specs.Bounds.{Unentered}
 use Rattle.flow.specs.Walk.{GrowingRing}
@@ -27,20 +31,18 @@ use Rattle.circuit.specs.Circuit.{circuit_of}
 use Rattle.circuit.specs.Clock.{flow}
 use Rattle.circuit.proofs.Sound.{Sound, sound, good}
 use Rattle.circuit.proofs.Solved.{decided, worked, worked_least}
-use Rattle.timing.specs.declared.path_call.Way.{Way}
-use Rattle.timing.specs.declared.path_call.Way.TheVariants.{Refused, Found}
+use Rattle.timing.specs.declared.trail.Path.{Path}
 use Rattle.timing.specs.PathPromise.{Asked, PathCall, refused, few_arcs, no_such, unentered, growing, found}
 use Rattle.timing.proofs.FirstYes.{Past, start, on, FirstYes, yes_at, one_outcome}
 
--- the answer to a refused image
-abbrev refusal : Checked → Way
-refusal (check.Refused rule culprit) = Refused rule culprit
-refusal (check.Good image) = Refused 0 0
+-- a path, or a refusal
+abbrev Answer : Type 0
+Answer = Result Path Refusal
 
 module _ (bytes : List ℕ) (i : ℕ) (arcs : List ℕ) where
   -- the questions, in order; the last is always answered with yes
   abbrev Question : ℕ → Type 0
-  Question zero = (rule : ℕ) × (culprit : ℕ) × (check_of bytes ≡ check.Refused rule culprit)
+  Question zero = (why : Refusal) × (check_of bytes ≡ Err why)
   Question (suc zero) = length arcs < (circuit_of bytes).synchronizers
   Question (suc (suc zero)) = (circuit_of bytes).synchronizers ≤ i
   Question (suc (suc (suc zero))) = Unentered (flow late (circuit_of bytes)) i (circuit_of bytes).arcs
@@ -48,24 +50,24 @@ module _ (bytes : List ℕ) (i : ℕ) (arcs : List ℕ) where
   Question (suc (suc (suc (suc (suc k))))) = Unit {0}
 
   -- this answer, and nothing written
-  abbrev Only : Way → Way → List ℕ → Type 0
+  abbrev Only : Answer → Answer → List ℕ → Type 0
   Only x X A = (X ≡ x) × (A ≡ arcs)
 
   -- what is left open in each case
-  abbrev Left : Way → List ℕ → ℕ → Type 0
-  Left X A zero = Only (refusal (check_of bytes)) X A
-  Left X A (suc zero) = Only (Refused 11 0) X A
-  Left X A (suc (suc zero)) = Only (Refused 12 0) X A
-  Left X A (suc (suc (suc zero))) = Only (Refused 13 0) X A
-  Left X A (suc (suc (suc (suc zero)))) = Only (Refused 14 0) X A
+  abbrev Left : Answer → List ℕ → ℕ → Type 0
+  Left X A zero = (why : Refusal) × (check_of bytes ≡ Err why) × Only (Err why) X A
+  Left X A (suc zero) = Only (Err (refusal by.ArcBuffer 0)) X A
+  Left X A (suc (suc zero)) = Only (Err (refusal by.NoSynchronizer 0)) X A
+  Left X A (suc (suc (suc zero))) = Only (Err (refusal by.NothingEnters 0)) X A
+  Left X A (suc (suc (suc (suc zero)))) = Only (Err (refusal by.GrowingLoop 0)) X A
   Left X A (suc (suc (suc (suc (suc k))))) = (D : ℕ → ℤ) × (s : ℕ) × (p : List ℕ) × Good (flow late (circuit_of bytes))
       × Least late (flow late (circuit_of bytes)) D × PathTo (flow late (circuit_of bytes)) D i s p
-      × (X ≡ Found s (length p)) × (A ≡ p ++ drop (length p) arcs)
+      × (X ≡ Ok (record { launch = s; count = length p })) × (A ≡ p ++ drop (length p) arcs)
 
-  past_image : check_of bytes ≡ check.Good (image_in bytes) → Past Question 1
-  past_image ok = on Question 0 (start Question) (λ q. let e = q.2 in let z : ◌≡◌ {A = ℕ} 0 1 = cc in omega arith)
+  past_image : check_of bytes ≡ Ok (image_in bytes) → Past Question 1
+  past_image ok = on Question 0 (start Question) (λ q. err_is_not_ok (sym q.1 ∙ ok))
 
-  past_room : check_of bytes ≡ check.Good (image_in bytes) → (circuit_of bytes).synchronizers ≤ length arcs → Past Question 2
+  past_room : check_of bytes ≡ Ok (image_in bytes) → (circuit_of bytes).synchronizers ≤ length arcs → Past Question 2
   past_room ok room = on Question 1 (past_image ok) (λ q. omega arith)
 
   past_number : Asked bytes i arcs → Past Question 3
@@ -74,11 +76,11 @@ module _ (bytes : List ℕ) (i : ℕ) (arcs : List ℕ) where
   past_entry : (a : ℕ) → Asked bytes i arcs → a < (circuit_of bytes).arcs → (circuit_of bytes).to a ≡ i → Past Question 4
   past_entry a asked l e = on Question 3 (past_number asked) (λ q. q a l e)
 
-  held : check_of bytes ≡ check.Good (image_in bytes) → Sound (circuit_of bytes)
+  held : check_of bytes ≡ Ok (image_in bytes) → Sound (circuit_of bytes)
   held ok = sound bytes ((accepts bytes).1 ok)
 
-  case_of : {X : Way} {A : List ℕ} → PathCall bytes i arcs X A → FirstYes Question (Left X A)
-  case_of (refused {rule} {culprit} e) = yes_at Question 0 (start Question) (rule, culprit, e) (rw e, refl)
+  case_of : {X : Answer} {A : List ℕ} → PathCall bytes i arcs X A → FirstYes Question (Left X A)
+  case_of (refused {why} e) = yes_at Question 0 (start Question) (why, e) (why, e, (refl, refl))
   case_of (few_arcs ok h) = yes_at Question 1 (past_image ok) h (refl, refl)
   case_of (no_such ok room h) = yes_at Question 2 (past_room ok room) h (refl, refl)
   case_of (unentered asked h) = yes_at Question 3 (past_number asked) h (refl, refl)
@@ -91,12 +93,16 @@ module _ (bytes : List ℕ) (i : ℕ) (arcs : List ℕ) where
       yes_at Question 5 past tt (D, s, p, v, least, path, refl, refl)
 
   -- within one case
-  module _ {X Y : Way} {A B : List ℕ} where
-    same : {x : Way} → Only x X A → Only x Y B → (X ≡ Y) × (A ≡ B)
+  module _ {X Y : Answer} {A B : List ℕ} where
+    same : {x : Answer} → Only x X A → Only x Y B → (X ≡ Y) × (A ≡ B)
     same h k = (h.0 ∙ sym k.0, h.1 ∙ sym k.1)
 
     alike : (k : ℕ) → Left X A k → Left Y B k → (X ≡ Y) × (A ≡ B)
-    alike zero h k = same h k
+    alike zero h k =
+        let a = h.1 in
+        let b = k.1 in
+        let e : h.0 ≡ k.0 = cc in
+        (h.2.0 ∙ ap Err e ∙ sym k.2.0, h.2.1 ∙ sym k.2.1)
     alike (suc zero) h k = same h k
     alike (suc (suc zero)) h k = same h k
     alike (suc (suc (suc zero))) h k = same h k
@@ -111,7 +117,7 @@ module _ (bytes : List ℕ) (i : ℕ) (arcs : List ℕ) where
 
   -- some outcome keeps the promise: each question is decided
   abbrev Answered : Type 0
-  Answered = (X : Way) × (A : List ℕ) × PathCall bytes i arcs X A
+  Answered = (X : Answer) × (A : List ℕ) × PathCall bytes i arcs X A
 
   entered : (a : ℕ) → Asked bytes i arcs → a < (circuit_of bytes).arcs → (circuit_of bytes).to a ≡ i → Answered
   entered a asked l e =
@@ -121,9 +127,9 @@ module _ (bytes : List ℕ) (i : ℕ) (arcs : List ℕ) where
         | inl calm ↦ (
             let least = worked_least c v calm.0 calm.1 late in
             let h = entered_path (flow late c) (good late c v) (worked c v late) least i a l e in
-            (Found h.0 (length h.1), h.1 ++ drop (length h.1) arcs, found (worked c v late) h.0 h.1 asked least h.3)
+            (Ok (record { launch = h.0; count = length h.1 }), h.1 ++ drop (length h.1) arcs, found (worked c v late) h.0 h.1 asked least h.3)
             )
-        | inr ring ↦ (Refused 14 0, arcs, growing a asked l e ring)
+        | inr ring ↦ (Err (refusal by.GrowingLoop 0), arcs, growing a asked l e ring)
       ]
 
   asking : Asked bytes i arcs → Answered
@@ -132,14 +138,14 @@ module _ (bytes : List ℕ) (i : ℕ) (arcs : List ℕ) where
       elim (some_or_all (λ a. to a ≡ i) (λ a. to a ≡ i → ⊥) (circuit_of bytes).arcs
       (λ a l. elim (ℕ_discrete (to a) i) [ yes e ↦ inl e | no d ↦ inr d ])) [
         | inl h ↦ entered h.0 asked h.1 h.2
-        | inr d ↦ (Refused 13 0, arcs, unentered asked d)
+        | inr d ↦ (Err (refusal by.NothingEnters 0), arcs, unentered asked d)
       ]
 
-  serving : check_of bytes ≡ check.Good (image_in bytes) → Answered
+  serving : check_of bytes ≡ Ok (image_in bytes) → Answered
   serving ok = elim (dec_lt (length arcs) (circuit_of bytes).synchronizers) [
-    | yes l ↦ (Refused 11 0, arcs, few_arcs ok l)
+    | yes l ↦ (Err (refusal by.ArcBuffer 0), arcs, few_arcs ok l)
     | no l ↦ elim (dec_lt i (circuit_of bytes).synchronizers) [
-      | no k ↦ (Refused 12 0, arcs, no_such ok (omega arith) (omega arith))
+      | no k ↦ (Err (refusal by.NoSynchronizer 0), arcs, no_such ok (omega arith) (omega arith))
       | yes k ↦ asking (record { good = ok; arcs_fit = omega arith; inside = k })
     ]
   ]
@@ -147,6 +153,6 @@ module _ (bytes : List ℕ) (i : ℕ) (arcs : List ℕ) where
   pub path_some : Answered
   path_some = go (check_of bytes) refl
     where
-      go : (c : Checked) → check_of bytes ≡ c → Answered
-      go (check.Refused rule culprit) e = (Refused rule culprit, arcs, refused e)
-      go (check.Good image) e = serving (rw (accepted_is bytes image e) at e)
+      go : (c : Result Image Refusal) → check_of bytes ≡ c → Answered
+      go (Err why) e = (Err why, arcs, refused e)
+      go (Ok image) e = serving (rw (accepted_is bytes image e) at e)

@@ -1,18 +1,19 @@
 -- What is read of a record of an image is what the image's circuit says under its own names.
 use mathlib.Core.Path.{◌≡◌, refl}
 use mathlib.Core.List.{List}
+use Rattle.std.specs.Prelude.{Ok}
 use Prim.Native.Nat.{ℕ, ◌≤◌}
+use native.Mathlib.Omega.{arith}
 use Rattle.image.specs.Checks.{check_of}
 use Rattle.image.specs.Valid.{Valid, image_in}
 use Rattle.image.specs.Records.{phase_at, synchronizer_at, arc_at}
-use Rattle.image.specs.declared.checks.Checked.TheVariants.{Good}
 use Rattle.image.specs.declared.header.Image.{Image}
 use Rattle.image.specs.declared.records.Phase.{Phase}
 use Rattle.image.specs.declared.records.Synchronizer.{Synchronizer}
 use Rattle.image.specs.declared.records.Arc.{Arc}
 use Rattle.image.proofs.Validity.{accepts, accepted_is, passed, valid}
 use Rattle.circuit.specs.Circuit.{Circuit, circuit_of}
-use Rattle.tables.specs.Inside.Sizes.{PHASES}
+use Rattle.tables.specs.Inside.Sizes.{ARCS, NODES, PHASES}
 
 pub record Counts (c : Circuit) (image : Image) : Type 0 where
   pub cycle : image.cycle ≡ c.cycle
@@ -61,10 +62,16 @@ module _ (bytes : List ℕ) (image : Image) (same : image ≡ image_in bytes) wh
 -- an image that the check gave: it is the one that the bytes hold, which are good
 pub record Accepted (bytes : List ℕ) (image : Image) : Type 0 where
   pub same : image ≡ image_in bytes
-  pub good : check_of bytes ≡ Good (image_in bytes)
+  pub good : check_of bytes ≡ Ok (image_in bytes)
+  pub valid : Valid bytes
   pub counts : Counts (circuit_of bytes) image
 
-pub accepted : {bytes : List ℕ} {image : Image} → check_of bytes ≡ Good image → Accepted bytes image
+pub accepted : {bytes : List ℕ} {image : Image} → check_of bytes ≡ Ok image → Accepted bytes image
 accepted {bytes} {image} h =
     let same = accepted_is bytes image h in
-    record { same = same; good = (accepts bytes).0 (valid bytes (passed bytes image h)); counts = counts bytes image same }
+    let good = valid bytes (passed bytes image h) in
+    record { same = same; good = (accepts bytes).0 good; valid = good; counts = counts bytes image same }
+
+-- the tables have room for its records
+pub fits : (bytes : List ℕ) {image : Image} → check_of bytes ≡ Ok image → (image.phases ≤ PHASES) × (image.synchronizers ≤ NODES) × (image.arcs ≤ ARCS)
+fits bytes h = let a = accepted h in let v = a.valid in rw a.same (omega arith, omega arith, omega arith)

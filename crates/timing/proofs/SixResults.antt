@@ -1,23 +1,20 @@
--- Six stores side by side turn the results of the first n synchronizers into those of the first n + 1.
+-- Six numbers stored side by side turn the results of the first n synchronizers into those of the first n + 1.
 use mathlib.Core.Path.{◌≡◌, refl, sym, ap, ◌∙◌}
-use mathlib.Core.List.{List, [], ◌∷◌, ◌++◌}
+use mathlib.Core.List.{List, ◌++◌, append_assoc}
 use Prim.Native.Nat.{ℕ, zero, suc, ◌+◌, ◌*◌, ◌≤◌}
 use native.Mathlib.Omega.{arith}
 use lib.IntN.{ℤ}
-use lib.ListN.{length, set, take, drop, length-append, length-drop}
+use lib.ListN.{length, take, drop, length-append, length-drop}
+use borrow.Rule.Slice.PartMut.{put_mid}
 use lib.Seq.{sets, sets-eq, take_at, drop-append-add, drop-drop}
 use Rattle.circuit.specs.Circuit.{Circuit}
 use Rattle.circuit.specs.Times.{six, results}
 
-pub six_stores : (l : List ℤ) (at : ℕ) (a b c d e f : ℤ) →
-    set (set (set (set (set (set l at a) (at + 1) b) (at + 2) c) (at + 3) d) (at + 4) e) (at + 5) f ≡ sets l at (a ∷ b ∷ c ∷ d ∷ e ∷ f ∷ [])
-six_stores l at a b c d e f =
-    let one : at + 1 ≡ suc at = omega arith in
-    let two : at + 2 ≡ suc (suc at) = omega arith in
-    let three : at + 3 ≡ suc (suc (suc at)) = omega arith in
-    let four : at + 4 ≡ suc (suc (suc (suc at))) = omega arith in
-    let five : at + 5 ≡ suc (suc (suc (suc (suc at)))) = omega arith in
-    rw (one, two, three, four, five)
+-- a part of six written anew
+pub six_stored : (at : ℕ) {k : ℕ} (before row : List ℤ) → length row ≡ 6 → k ≡ 6 → at + 6 ≤ length before → put_mid at k before row ≡ sets before at row
+six_stored at {k} before row long e room =
+    let rest : drop k (drop at before) ≡ drop (at + length row) before = drop-drop k at before ∙ ap (λ (n : ℕ). drop n before) (omega arith) in
+    sym (sets-eq row before at (omega arith) ∙ append_assoc (take at before) row (drop (at + length row) before) ∙ rw rest)
 
 module _ (c : Circuit) (E D : ℕ → ℤ) where
   length-six : (n : ℕ) → length (six c E D n) ≡ 6

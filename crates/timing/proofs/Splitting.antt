@@ -6,12 +6,10 @@ use Prim.Native.Nat.{ℕ, ◌+◌, ◌≤◌, ◌<◌}
 use native.Mathlib.Nat.{le_refl, eq-or-lt_of_le, lt_of_not-le}
 use native.Mathlib.Decide.{dec_lt}
 use native.Mathlib.Omega.{arith}
-use lib.ListN.{length, get_or, set}
-use borrow.Author.Count.{below_none, below_more}
+use lib.ListN.{length, get_or}
 use Rattle.circuit.specs.Circuit.{Circuit}
 use Rattle.circuit.proofs.Sound.{Sound}
 use Rattle.timing.specs.Inside.Loaded.{Spread, LoadedFirst}
-use Rattle.timing.proofs.OneMoreLoaded.{kept, stored, sized}
 use Rattle.tables.specs.Inside.Sizes.{FIRSTS}
 
 -- the arcs before arc x enter synchronizers below i, all others do not
@@ -25,18 +23,6 @@ pub record Entered (c : Circuit) (a last : ℕ) (first : List ℕ) : Type 0 wher
   pub long : length first ≡ FIRSTS
   pub passed : (b : ℕ) → b < a → c.to b ≤ last
   pub each : (i : ℕ) → i < last + 1 → Splits c i (get_or first i 0)
-
--- one place more in the spread
-pub spread_more : {before after : List ℕ} {from i a : ℕ} → from ≤ i → i + 1 < length before → Spread before from i a after →
-    Spread before from (i + 1) a (set after (i + 1) a)
-spread_more {after = after} {i = i} {a} low l s = record {
-  long = sized after (i + 1) a _ s.long;
-  kept = λ j h. kept after (i + 1) a j (omega arith) ∙ s.kept j h;
-  new = λ j h k. ⊎_elim
-      (λ e. rw e (stored after (i + 1) a (omega (arith, s.long))))
-      (λ less. kept after (i + 1) a j less ∙ s.new j h (omega arith))
-      (eq-or-lt_of_le k);
-}
 
 not_below : (x y : ℕ) → (y < x → ⊥) → x ≤ y
 not_below x y h = omega (arith, lt_of_not-le h)
@@ -64,14 +50,6 @@ loaded_first e f = record {
     inside = λ i a l. split_inside (f i (omega arith)) (f (i + 1) (omega arith)) a;
     outside = λ i a l. split_outside (f i (omega arith)) (f (i + 1) (omega arith)) a;
   };
-}
-
-pub entered_none : {c : Circuit} (first : List ℕ) → length first ≡ FIRSTS → Entered c 0 0 (set first 0 0)
-entered_none first e = record {
-  long = sized first 0 0 FIRSTS e;
-  passed = below_none _;
-  each = below_more _ 0 (below_none _)
-      (rw (stored first 0 0 (omega arith)) (record { within = omega arith; below = below_none _; above = λ a h l. omega arith }));
 }
 
 module _ {c : Circuit} (v : Sound c) {a last up : ℕ} {first after : List ℕ} (t : Entered c a last first) (s : Spread first last up a after) where

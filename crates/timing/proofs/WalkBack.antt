@@ -1,5 +1,5 @@
 -- The walk back over parents, one arc more, and its end.
-use mathlib.Core.Path.{◌≡◌, refl, sym, ap, ◌∙◌}
+use mathlib.Core.Path.{◌≡◌, sym, ap, ◌∙◌}
 use mathlib.Core.List.{List}
 use Prim.Native.Nat.{ℕ, suc, ◌+◌, ◌<◌}
 use native.Mathlib.Omega.{arith}
@@ -15,19 +15,6 @@ use Rattle.tables.proofs.Rooting.{raised_flow}
 use Rattle.timing.specs.Inside.Ring.{Climbs}
 
 module _ {k : Notes} {l u : ℕ} where
-  pub climbs_none : {nodes trail : ℕ → ℕ} → u < l → Climbs k l u 0 nodes trail u
-  climbs_none h = record {
-    few = omega arith;
-    here = h;
-    start = λ e. refl;
-    begin = λ k. let z : ⊥ = omega arith in absurd z;
-    small = λ x k. let z : ⊥ = omega arith in absurd z;
-    raised = λ x k. let z : ⊥ = omega arith in absurd z;
-    arc = λ x k. let z : ⊥ = omega arith in absurd z;
-    onto = λ x k. let z : ⊥ = omega arith in absurd z;
-    last = λ x k. let z : ⊥ = omega arith in absurd z;
-  }
-
   module _ (nodes trail : List ℕ) {d node : ℕ} (c : Climbs k l u d (times_of nodes) (times_of trail) node)
       (room : d < length nodes) where
     spot : get_or (set nodes d node) d 0 ≡ node

@@ -17,9 +17,6 @@ module _ (arc : ℕ → ℕ) where
   pub route_cons : (from d : ℕ) → from ≤ d → route_back arc (d + 1) (d + 1 - from) ≡ arc d ∷ route_back arc d (d - from)
   route_cons from d h = let e : d + 1 - from ≡ suc (d - from) = omega arith in rw (e, add-one)
 
-  pub route_none : (d : ℕ) → route_back arc d (d - d) ≡ []
-  route_none d = let e : d - d ≡ 0 = omega arith in rw e
-
   -- an arc after the others
   route_snoc : (high x : ℕ) → x < high → route_back arc high (suc x) ≡ route_back arc high x ++ (arc (high - suc x) ∷ [])
   route_snoc zero x h = let z : ⊥ = omega arith in absurd z

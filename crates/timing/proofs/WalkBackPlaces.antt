@@ -1,4 +1,5 @@
--- Places of a walk back: one place more for the lowest node, and for the table that notes each node's place.
+-- Places of a walk back: the table that notes each node's place, with one place more.
+use Rattle.std.specs.Prelude.{Option, None, Some}
 use mathlib.Core.Path.{◌≡◌, sym, ap, ◌∙◌}
 use mathlib.Core.List.{List}
 use mathlib.Core.Logic.{◌≢◌}
@@ -9,38 +10,9 @@ use lib.ListN.{get_or, set, length-set, replicate, length-replicate}
 use lib.Seq.{get_or-set_same, get_or-set_other}
 use borrow.Author.Count.{below_none, below_more}
 use Rattle.flow.proofs.Pigeonhole.{Fresh, pigeons}
-use Rattle.timing.specs.Inside.Ring.{Repeats, Placed, LowestBetween}
-use Rattle.timing.proofs.Zeros.{zero_reads}
+use Rattle.timing.specs.Inside.Ring.{Repeats, Placed}
+use Rattle.timing.proofs.Zeros.{blank_reads}
 use Rattle.tables.specs.Inside.Sizes.{NODES}
-
-module _ (node : ℕ → ℕ) (first : ℕ) where
-  pub low_one : LowestBetween node first (first + 1) (first + 1)
-  low_one = record {
-    above = omega arith;
-    below = omega arith;
-    lowest = λ x h k. let e : x ≡ first + 1 = omega arith in omega (arith, ap node e);
-  }
-
-  module _ (x low : ℕ) (h : LowestBetween node first x low) where
-    pub low_new : node (x + 1) < node low → LowestBetween node first (x + 1) (x + 1)
-    low_new k = record {
-      above = omega (arith, h.above, h.below);
-      below = omega arith;
-      lowest = λ y l m. elim (ℕ_discrete y (x + 1)) [
-        | yes e ↦ omega (arith, ap node e)
-        | no e ↦ omega (arith, h.lowest y l (omega arith))
-      ];
-    }
-
-    pub low_stays : node low ≤ node (x + 1) → LowestBetween node first (x + 1) low
-    low_stays k = record {
-      above = h.above;
-      below = omega (arith, h.below);
-      lowest = λ y l m. elim (ℕ_discrete y (x + 1)) [
-        | yes e ↦ omega (arith, ap node e)
-        | no e ↦ h.lowest y l (omega arith)
-      ];
-    }
 
 module _ (node : ℕ → ℕ) where
   -- l + 1 nodes below l do not all differ
@@ -50,36 +22,40 @@ module _ (node : ℕ → ℕ) where
       k t.second (omega (arith, t.bound)) t.first t.order t.same
 
 module _ {node : ℕ → ℕ} where
-  pub placed_none : Placed node 0 (replicate NODES 0)
+  pub placed_none : Placed node 0 (replicate NODES None)
   placed_none = record {
-    long = length-replicate {A = ℕ} NODES 0;
+    long = length-replicate {A = Option ℕ} NODES None;
     noted = below_none _;
-    real = λ i x e. let z : ⊥ = omega (arith, e, zero_reads NODES i) in absurd z;
+    real = λ i x e. let blank : get_or {A = Option ℕ} (replicate NODES None) i None ≡ None = blank_reads None NODES i in let z : ⊥ = cc in absurd z;
   }
 
-  module _ {d : ℕ} {places : List ℕ} (h : Placed node d places) where
+  module _ {d : ℕ} {places : List (Option ℕ)} (h : Placed node d places) where
     -- one table notes one place for a node
     pub placed_fresh : Fresh node d
-    placed_fresh y l x k e = omega (arith, k, h.noted x (omega arith), h.noted y l, ap (λ (i : ℕ). get_or places i 0) e)
+    placed_fresh y l x k e =
+        let o = h.noted x (omega arith) in
+        let q = h.noted y l in
+        let z : x ≡ y = cc (ap (λ (i : ℕ). get_or places i None) e) in
+        omega arith
 
     -- a node that is noted comes a second time
-    pub placed_twice : {l first : ℕ} → d ≤ l → get_or places (node d) 0 ≡ first + 1 → Repeats node l first d
+    pub placed_twice : {l first : ℕ} → d ≤ l → get_or places (node d) None ≡ Some first → Repeats node l first d
     placed_twice {first = first} few e = let q = h.real (node d) first e in record { order = q.0; bound = few; same = q.1; fresh = placed_fresh }
 
     -- one that is not noted is new
-    module _ (small : node d < NODES) (new : get_or places (node d) 0 ≡ 0) where
-      spot : get_or (set places (node d) (d + 1)) (node d) 0 ≡ d + 1
-      spot = get_or-set_same places (node d) (d + 1) 0 (omega (arith, h.long, small))
+    module _ (small : node d < NODES) (new : get_or places (node d) None ≡ None) where
+      spot : get_or (set places (node d) (Some d)) (node d) None ≡ Some d
+      spot = get_or-set_same places (node d) (Some d) None (omega (arith, h.long, small))
 
-      kept : (i : ℕ) → i ≢ node d → get_or (set places (node d) (d + 1)) i 0 ≡ get_or places i 0
-      kept i q = get_or-set_other places (node d) i (d + 1) 0 q
+      kept : (i : ℕ) → i ≢ node d → get_or (set places (node d) (Some d)) i None ≡ get_or places i None
+      kept i q = get_or-set_other places (node d) i (Some d) None q
 
-      pub placed_more : Placed node (d + 1) (set places (node d) (d + 1))
+      pub placed_more : Placed node (d + 1) (set places (node d) (Some d))
       placed_more = record {
-        long = length-set places (node d) (d + 1) ∙ h.long;
-        noted = below_more _ d (λ x k. kept (node x) (λ q. omega (arith, h.noted x k, new, ap (λ (i : ℕ). get_or places i 0) q)) ∙ h.noted x k) spot;
+        long = length-set places (node d) (Some d) ∙ h.long;
+        noted = below_more _ d (λ x k. kept (node x) (λ q. let o = h.noted x k in let z : ⊥ = cc (ap (λ (i : ℕ). get_or places i None) q) in z) ∙ h.noted x k) spot;
         real = λ i x e. elim (ℕ_discrete i (node d)) [
-          | yes q ↦ let z : x ≡ d = omega (arith, e, spot, ap (λ (j : ℕ). get_or (set places (node d) (d + 1)) j 0) q) in (omega arith, rw (z, q))
+          | yes q ↦ let z : x ≡ d = cc (spot, ap (λ (j : ℕ). get_or (set places (node d) (Some d)) j None) q) in (omega arith, rw (z, q))
           | no q ↦ let r = h.real i x (sym (kept i q) ∙ e) in (omega (arith, r.0), r.1)
         ];
       }

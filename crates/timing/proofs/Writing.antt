@@ -2,118 +2,122 @@
 use mathlib.Core.Path.{◌≡◌, refl, ap, ◌∙◌}
 use mathlib.Core.Bool.{Bool, true, false, cond}
 use mathlib.Core.List.{List, ◌++◌}
-use Prim.Native.Nat.{ℕ, zero, suc, ◌*◌, ◌≤◌, ◌<◌}
+use Prim.Native.Nat.{ℕ, zero, suc, ◌+◌, ◌-◌, ◌*◌, ◌≤◌, ◌<◌}
 use native.Mathlib.Omega.{arith}
+use native.Mathlib.Numerals.{add-one}
+use Rattle.std.proofs.Common.{add-zero}
+use mir.Val.{bool_byte}
+use borrow.Rule.Slice.PartMut.{put_mid}
+use lib.Dec.{eqb}
 use lib.IntN.{ℤ}
 use lib.ListN.{length, drop}
-use lib.Seq.{sets}
-use Rattle.flow.specs.Flow.{late, early}
+use Rattle.std.proofs.Common.{Option, Some, None, unwrap_or}
+use Rattle.std.specs.Option.{option_map}
+use Rattle.ticks.specs.Inside.Raised.{lower}
+use Rattle.flow.specs.Flow.{late, early, When, none, at}
 use Rattle.image.specs.Records.{synchronizer_at}
 use Rattle.image.specs.declared.header.Image.{Image}
 use Rattle.image.specs.declared.records.Synchronizer.{Synchronizer}
 use Rattle.circuit.specs.Circuit.{Circuit, circuit_of}
-use Rattle.circuit.specs.Clock.{flow}
-use Rattle.circuit.specs.Times.{arrives, setup_slack, hold_slack, missed, count, six, results}
+use Rattle.circuit.specs.Times.{arrives, setup_slack, hold_slack, missed, mark, or_mark, count, six, results}
 use Rattle.circuit.proofs.Sound.{sound, good}
-use Rattle.tables.specs.Inside.Net.{arcs_of, times_of, Ranged}
+use Rattle.tables.specs.Inside.Net.{times_of, degree, Ranged}
 use Rattle.tables.specs.Inside.Models.{lowered}
 use Rattle.timing.specs.declared.results.Arrivals.{Arrivals}
 use Rattle.timing.specs.declared.results.Missed.{Missed}
-use Rattle.timing.specs.Inside.Results.{arrivals_of, Open, when_if, six_of, Tellable, more, counted_of, Writable, Added, Written}
-use Rattle.timing.proofs.Entering.{arrival_below, arrival_enters, walk_stays}
-use Rattle.timing.proofs.SixResults.{results_more}
+use Rattle.timing.specs.declared.sides.Sides.{Sides}
+use Rattle.timing.specs.Inside.Web.{net_in}
+use Rattle.timing.specs.Inside.Results.{arrivals_of, below_zero, setup_by, hold_by, six_of, more, Writable, Added, Written}
+use Rattle.timing.proofs.RecordsRead.{Accepted}
+use Rattle.timing.proofs.Entering.{arrival_enters}
+use Rattle.timing.proofs.SixResults.{six_stored, results_more}
 
-module _ {bytes : List ℕ} {image : Image} {source lates earlies first D E : List ℕ}
-    (w : Writable bytes image source lates earlies first D E) where
-  abbrev told : ℕ → Arrivals
-  told i = arrivals_of (arcs_of source lates image.cycle) (arcs_of source earlies image.cycle) (times_of first) (times_of D) (times_of E) i
+-- the arrival that is picked, told as a time
+abbrev told_when : (Arrivals → ℕ) → Option Arrivals → When
+told_when pick None = none
+told_when pick (Some a) = at (lower (pick a))
 
-  pub synchronizers_are : image.synchronizers ≡ (circuit_of bytes).synchronizers
+-- what is written and counted of it
+module _ (pick : Arrivals → ℕ) (f : ℤ → ℤ) where
+  marked : (a : Option Arrivals) → unwrap_or (option_map (λ x. f (lower (pick x))) a) mark ≡ or_mark f (told_when pick a)
+  marked None = refl
+  marked (Some a) = refl
+
+  below : (a : Option Arrivals) → below_zero (option_map (λ x. f (lower (pick x))) a) ≡ missed f (told_when pick a)
+  below None = refl
+  below (Some a) = refl
+
+counts_one : (test : Bool) (n : ℕ) → n + bool_byte test ≡ more test n
+counts_one true n = add-one n
+counts_one false n = add-zero n
+
+module _ {bytes : List ℕ} {image : Image} (ok : Accepted bytes image) {s : Sides} (w : Writable bytes s) where
+  setup_read : (i : ℕ) → (synchronizer_at bytes image.layout i).setup ≡ (circuit_of bytes).setup i
   unfolding circuit_of
-  synchronizers_are = ap (λ (x : Image). x.synchronizers) w.same
+  setup_read i = ap (λ (x : Image). (synchronizer_at bytes x.layout i).setup) ok.same
 
-  cycle_is : image.cycle ≡ (circuit_of bytes).cycle
+  hold_read : (i : ℕ) → (synchronizer_at bytes image.layout i).hold ≡ (circuit_of bytes).hold i
   unfolding circuit_of
-  cycle_is = ap (λ (x : Image). x.cycle) w.same
+  hold_read i = ap (λ (x : Image). (synchronizer_at bytes x.layout i).hold) ok.same
 
-  pub setup_read : (i : ℕ) → (synchronizer_at bytes image.layout i).setup ≡ (circuit_of bytes).setup i
-  unfolding circuit_of
-  setup_read i = ap (λ (x : Image). (synchronizer_at bytes x.layout i).setup) w.same
-
-  pub hold_read : (i : ℕ) → (synchronizer_at bytes image.layout i).hold ≡ (circuit_of bytes).hold i
-  unfolding circuit_of
-  hold_read i = ap (λ (x : Image). (synchronizer_at bytes x.layout i).hold) w.same
-
-  module _ (i : ℕ) (l : i < image.synchronizers) where
+  module _ (i : ℕ) (l : i < s.late.nodes) where
     here : i < (circuit_of bytes).synchronizers
-    here = rw (← synchronizers_are) l
+    here = rw w.nodes at l
 
-    later : Ranged (circuit_of bytes).synchronizers (times_of D)
-    later = rw (← synchronizers_are) w.later
+    later : Ranged (circuit_of bytes).synchronizers (times_of s.later.now)
+    later = rw w.nodes at s.ranged.0
 
-    sooner : Ranged (circuit_of bytes).synchronizers (times_of E)
-    sooner = rw (← synchronizers_are) w.sooner
+    sooner : Ranged (circuit_of bytes).synchronizers (times_of s.sooner.now)
+    sooner = rw (s.same.1, w.nodes) at s.ranged.1
 
-    pub opened : Open source first D E i
-    opened =
-        let c = circuit_of bytes in
-        let v = sound bytes w.valid in
-        record {
-          here = omega (arith, here, v.synchronizers);
-          rises = w.late.into.rises i here;
-          late = walk_stays source lates image.cycle (times_of first) (flow late c) (good late c v) v.synchronizers v.arcs w.late D later i here;
-          early = walk_stays source earlies image.cycle (times_of first) (flow early c) (good early c v) v.synchronizers v.arcs w.early E sooner i here;
-        }
-
-    pub tellable : Tellable (told i)
+    late_is : arrives late (circuit_of bytes) (lowered (times_of s.later.now)) i ≡ told_when (λ a. a.late) (arrivals_of s i)
     unfolding arrivals_of
-    tellable =
-        let c = circuit_of bytes in
-        let v = sound bytes w.valid in
-        record {
-          late = arrival_below (good late c v) w.late later i here late;
-          early = arrival_below (good early c v) w.early sooner i here early;
-        }
+    late_is = go (eqb (degree (net_in s.late) i) 0) _ _ (arrival_enters late (net_in s.late) (good late _ (sound bytes ok.valid)) w.late later i here)
+      where
+        go : (b : Bool) {t : When} (x y : ℕ) → t ≡ cond b none (at (lower x)) →
+            t ≡ told_when (λ a. a.late) (cond b None (Some (record { late = x; early = y })))
+        go true x y e = e
+        go false x y e = e
 
-    late_is : arrives late (circuit_of bytes) (lowered (times_of D)) i ≡ when_if (told i).some (told i).late
+    early_is : arrives early (circuit_of bytes) (lowered (times_of s.sooner.now)) i ≡ told_when (λ a. a.early) (arrivals_of s i)
     unfolding arrivals_of
-    late_is = arrival_enters (good late _ (sound bytes w.valid)) w.late later i here late
+    early_is = go (eqb (degree (net_in s.late) i) 0) _ _ (ap (λ (x : List ℕ). eqb (times_of x (i + 1) - times_of x i) 0) s.same.0)
+        (arrival_enters early (net_in s.early) (good early _ (sound bytes ok.valid)) w.early sooner i here)
+      where
+        go : (b : Bool) {c : Bool} {t : When} (x y : ℕ) → c ≡ b → t ≡ cond c none (at (lower y)) →
+            t ≡ told_when (λ a. a.early) (cond b None (Some (record { late = x; early = y })))
+        go true x y q e = rw q at e
+        go false x y q e = rw q at e
 
-    early_is : arrives early (circuit_of bytes) (lowered (times_of E)) i ≡ when_if (told i).some (told i).early
-    unfolding arrivals_of
-    early_is = arrival_enters (good early _ (sound bytes w.valid)) w.early sooner i here early
-
-    pub six_is : six_of (times_of E i) (times_of D i) (told i) image.cycle (synchronizer_at bytes image.layout i).setup (synchronizer_at bytes image.layout i).hold
-        ≡ six (circuit_of bytes) (lowered (times_of E)) (lowered (times_of D)) i
+    -- the synchronizer as it was read, its arrivals and slacks, and what was made of them
+    pub added : {z : Synchronizer} {a : Option Arrivals} {hold setup : Option ℤ} {m r : Missed} {before row : List ℤ} {k : ℕ} →
+        z ≡ synchronizer_at bytes image.layout i → a ≡ arrivals_of s i →
+        hold ≡ option_map (λ x. hold_by z.hold (lower x.early)) a → setup ≡ option_map (λ x. setup_by image.cycle z.setup (lower x.late)) a →
+        row ≡ six_of (times_of s.sooner.now i) (times_of s.later.now i) a hold setup → k ≡ 6 → 6 * i + 6 ≤ length before →
+        r.setups ≡ m.setups + bool_byte (below_zero setup) → r.holds ≡ m.holds + bool_byte (below_zero hold) →
+        Added (circuit_of bytes) (lowered (times_of s.later.now)) (lowered (times_of s.sooner.now)) i before (put_mid (6 * i) k before row) m r
     unfolding six_of six setup_slack hold_slack
-    six_is = rw (late_is, early_is, setup_read i, hold_read i, cycle_is)
-
-    module _ (m : Missed) where
-      abbrev counted : Missed
-      counted = counted_of m (told i) image.cycle (synchronizer_at bytes image.layout i).setup (synchronizer_at bytes image.layout i).hold
-
-      pub setups_is : counted.setups ≡ more (missed (setup_slack (circuit_of bytes) i) (arrives late (circuit_of bytes) (lowered (times_of D)) i)) m.setups
-      unfolding counted_of setup_slack
-      setups_is = rw (late_is, setup_read i, cycle_is)
-
-      pub holds_is : counted.holds ≡ more (missed (hold_slack (circuit_of bytes) i) (arrives early (circuit_of bytes) (lowered (times_of E)) i)) m.holds
-      unfolding counted_of hold_slack
-      holds_is = rw (early_is, hold_read i)
-
-    -- the synchronizer as it was read, its arrivals, and what was made of them
-    pub added : {s : Synchronizer} {a : Arrivals} {m r : Missed} {before after : List ℤ} →
-        s ≡ synchronizer_at bytes image.layout i → a ≡ told i →
-        after ≡ sets before (6 * i) (six_of (times_of E i) (times_of D i) a image.cycle s.setup s.hold) →
-        r ≡ counted_of m a image.cycle s.setup s.hold →
-        Added (circuit_of bytes) (lowered (times_of D)) (lowered (times_of E)) i before after m r
-    added {m = m} es ea ef er = record {
-      list = ef ∙ rw (es, ea, six_is);
-      setups = rw (er, es, ea) (setups_is m);
-      holds = rw (er, es, ea) (holds_is m);
+    added {z} {a} {m = m} ez ea eh es er ek room cs ch = record {
+      list = six_stored (6 * i) _ _ (ap length er) ek room
+          ∙ rw (
+            er,
+            eh,
+            es,
+            marked (λ x. x.early) (λ t. t) a,
+            marked (λ x. x.late) (λ t. t) a,
+            marked (λ x. x.early) (hold_by z.hold) a,
+            marked (λ x. x.late) (setup_by image.cycle z.setup) a,
+            ea,
+            ← late_is,
+            ← early_is,
+            ez,
+            setup_read i,
+            hold_read i,
+            ok.counts.cycle,
+          );
+      setups = cs ∙ counts_one _ m.setups ∙ rw (es, below (λ x. x.late) (setup_by image.cycle z.setup) a, ea, ← late_is, ez, setup_read i, ok.counts.cycle);
+      holds = ch ∙ counts_one _ m.holds ∙ rw (eh, below (λ x. x.early) (hold_by z.hold) a, ea, ← early_is, ez, hold_read i);
     }
-
-    pub told_as : {a : Arrivals} → a ≡ told i → Tellable a
-    told_as e = rw e tellable
 
 -- counting
 pub count_few : (test : ℕ → Bool) (n : ℕ) → count test n ≤ n

@@ -2,178 +2,126 @@
 // one pass settles all that hangs on no ring, however the synchronizers are numbered.
 // A walk goes from each synchronizer back over the arcs that enter it, and lists a synchronizer when it has seen all that feed it. The order changes
 // only how long the passes take: who is not listed by the walk is listed after it.
-ghost use Rattle.std.specs.Prelude.{◌≡◌, ℕ, ◌+◌, ◌≤◌, ◌<◌, length};
+ghost use Rattle.std.specs.Prelude.{◌≡◌, ℕ, ◌+◌, ◌≤◌, ◌<◌};
 ghost use Rattle.tables.specs.Inside.Net.{times_of};
-ghost use Rattle.tables.specs.Inside.Listing.{Listed, Enlisted, Order, Stacked, Fed};
-ghost use Rattle.tables.specs.Inside.Sizes.{NODES};
+ghost use Rattle.tables.specs.Inside.Listing.{Listed, Enlisted, Order, Stacked};
 
-use crate::arrive::{index, narrow};
-use crate::sizes::{ARCS, FIRSTS, NODES};
+use crate::sizes::{ARCS, NODES};
+use crate::web::Web;
 
 // More steps than a walk has: it goes over each arc once, and leaves each synchronizer once.
 const STEPS: usize = 2 * ARCS;
 
-// Lists a synchronizer, unless it is listed already. Says how many are listed.
-fn enlist(i: u16, l: usize, count: usize, marks: &mut [u8; NODES], list: &mut [u16; NODES]) -> usize
-    requires i_lt_l { (i < l) × (l ≤ NODES) }
-    requires enlisted { Enlisted l marks.old list.old count }
-    ensures stays_enlisted { Enlisted l marks.new list.new result }
-    ensures listed { Listed (times_of list.new) result i }
-    ensures keeps_listed { (j : ℕ) → Listed (times_of list.old) count j → Listed (times_of list.new) result j }
-{
-    if marks[index(i)] == 1 {
-        return count;
-    }
-    marks[index(i)] = 1;
-    list[count] = i;
-    count + 1
-}
-
-// Stacks a synchronizer that the walk has not seen. Says how high the stack is.
-fn push(
-    first: &[u16; FIRSTS],
-    l: usize,
-    i: u16,
+// Walks back over the arcs, and what they have listed.
+#[derive(Drop)]
+struct Walk<'a> {
+    web: Web<'a>,
+    // Who was seen; the synchronizers on the way, and the next arc of each. No heap here: a stack is an array, filled up to `depth`.
+    seen: [bool; NODES],
+    stack: [u16; NODES],
+    ahead: [u16; NODES],
     depth: usize,
-    seen: &mut [u8; NODES],
-    stack: &mut [u16; NODES],
-    ahead: &mut [u16; NODES],
-) -> usize
-    requires l_bound { (l ≤ NODES) × (i < l) }
-    requires stacked { Stacked l stack.old depth }
-    ensures { Stacked l stack.new result }
-{
-    if seen[index(i)] == 1 {
-        return depth;
-    }
-    if depth >= l {
-        return depth;
-    }
-    seen[index(i)] = 1;
-    stack[depth] = i;
-    ahead[depth] = first[index(i)];
-    depth + 1
-}
-
-// Behind the last arc that feeds a synchronizer. Nothing feeds a flip-flop: it departs when it departs.
-fn end(first: &[u16; FIRSTS], latch: &[u8; NODES], i: usize) -> u16
-    requires { i < NODES }
-    ensures { result ≤ times_of first.now (i + 1) }
-{
-    if latch[i] == 1 { first[i + 1] } else { 0 }
-}
-
-#[derive(Clone, Copy)]
-struct Spot {
-    depth: usize,
+    // Who is listed, and where.
+    listed: [bool; NODES],
+    list: [u16; NODES],
     count: usize,
+    ghost stacked: { Stacked web.nodes stack depth },
+    ghost enlisted: { Enlisted web.nodes listed list count },
 }
 
-// One step of the walk: over the next arc that feeds the synchronizer on top; where there is none, that one is listed and leaves the stack.
-fn step(
-    source: &[u16; ARCS],
-    first: &[u16; FIRSTS],
-    latch: &[u8; NODES],
-    l: usize,
-    depth: usize,
-    seen: &mut [u8; NODES],
-    stack: &mut [u16; NODES],
-    ahead: &mut [u16; NODES],
-    count: usize,
-    marks: &mut [u8; NODES],
-    list: &mut [u16; NODES],
-) -> Spot
-    requires l_bound { (l ≤ NODES) × (0 < depth) }
-    requires fed { Fed (times_of source.now) (times_of first.now) l }
-    requires stacked { Stacked l stack.old depth }
-    requires enlisted { Enlisted l marks.old list.old count }
-    ensures stays_stacked { Stacked l stack.new result.depth }
-    ensures stays_enlisted { Enlisted l marks.new list.new result.count }
-    ensures keeps_listed { (j : ℕ) → Listed (times_of list.old) count j → Listed (times_of list.new) result.count j }
-{
-    let top = depth - 1;
-    let i = stack[top];
-    let a = ahead[top];
-    if a < end(first, latch, index(i)) {
-        ahead[top] = a + 1;
-        let feeds = source[index(a)];
-        return Spot {
-            depth: push(first, l, feeds, depth, seen, stack, ahead),
-            count: count,
-        };
-    }
-    Spot {
-        depth: top,
-        count: enlist(i, l, count, marks, list),
-    }
-}
+impl Walk<'_> {
+    ghost use Rattle.timing.specs.Inside.Walk.{Further};
 
-// The walk back from synchronizer i. Says how many are listed.
-fn explore(
-    source: &[u16; ARCS],
-    first: &[u16; FIRSTS],
-    latch: &[u8; NODES],
-    l: usize,
-    i: u16,
-    seen: &mut [u8; NODES],
-    stack: &mut [u16; NODES],
-    ahead: &mut [u16; NODES],
-    count: usize,
-    marks: &mut [u8; NODES],
-    list: &mut [u16; NODES],
-) -> usize
-    requires l_bound { (l ≤ NODES) × (i < l) }
-    requires fed { Fed (times_of source.now) (times_of first.now) l }
-    requires stack_len { length stack.old ≡ NODES }
-    requires enlisted { Enlisted l marks.old list.old count }
-    ensures keeps_stack_len { length stack.new ≡ NODES }
-    ensures stays_enlisted { Enlisted l marks.new list.new result }
-    ensures keeps_listed { (j : ℕ) → Listed (times_of list.old) count j → Listed (times_of list.new) result j }
-{
-    let mut depth = push(first, l, i, 0, seen, stack, ahead);
-    let mut listed = count;
-    let mut n: usize = 0;
-    while n < STEPS {
-        if depth == 0 {
-            return listed;
+    // Lists a synchronizer, unless it is listed already.
+    fn enlist(&mut self, i: u16)
+        requires { i < self.old.web.nodes }
+        ensures further { Further self.old self.new }
+        ensures listed { Listed (times_of self.new.list) self.new.count i }
+    {
+        let at = usize::from(i);
+        if !self.listed[at] {
+            self.listed[at] = true;
+            self.list[self.count] = i;
+            self.count += 1;
         }
-        let spot = step(
-            source, first, latch, l, depth, seen, stack, ahead, listed, marks, list,
-        );
-        depth = spot.depth;
-        listed = spot.count;
-        n += 1;
     }
-    listed
+
+    // Stacks a synchronizer that no walk has seen.
+    fn push(&mut self, i: u16)
+        requires { i < self.old.web.nodes }
+        ensures { Further self.old self.new }
+    {
+        let at = usize::from(i);
+        if !self.seen[at] & (self.depth < self.web.nodes) {
+            self.seen[at] = true;
+            self.stack[self.depth] = i;
+            self.ahead[self.depth] = self.web.first[at];
+            self.depth += 1;
+        }
+    }
+
+    // Behind the last arc that feeds a synchronizer. Nothing feeds a flip-flop: it departs when it departs.
+    fn end(&self, i: usize) -> u16
+        requires { i < NODES }
+        ensures { result ≤ times_of self.now.web.first.now (i + 1) }
+    {
+        if self.web.latch[i] {
+            self.web.first[i + 1]
+        } else {
+            0
+        }
+    }
+
+    // One step: over the next arc that feeds the synchronizer on top; where there is none, that one is listed and leaves the stack.
+    fn step(&mut self)
+        requires { 0 < self.old.depth }
+        ensures { Further self.old self.new }
+    {
+        let top = self.depth - 1;
+        let i = self.stack[top];
+        let a = self.ahead[top];
+        if a < self.end(usize::from(i)) {
+            self.ahead[top] = a + 1;
+            self.push(self.web.source[usize::from(a)]);
+        } else {
+            self.depth = top;
+            self.enlist(i);
+        }
+    }
+
+    // The walk back from synchronizer i.
+    fn explore(&mut self, i: u16)
+        requires { i < self.old.web.nodes }
+        ensures { Further self.old self.new }
+    {
+        self.push(i);
+        for _ in 0..STEPS {
+            if self.depth == 0 {
+                return;
+            }
+            self.step();
+        }
+    }
 }
 
-// Lists all l synchronizers.
-pub(crate) fn arrange(
-    source: &[u16; ARCS],
-    first: &[u16; FIRSTS],
-    latch: &[u8; NODES],
-    l: usize,
-    order: &mut [u16; NODES],
-)
-    requires l_bound { l ≤ NODES }
-    requires fed { Fed (times_of source.now) (times_of first.now) l }
-    requires order_len { length order.old ≡ NODES }
-    ensures keeps_order_len { length order.new ≡ NODES }
-    ensures order { Order l (times_of order.new) }
+// Lists all synchronizers.
+pub(crate) fn arrange(web: &Web<'_>, order: &mut [u16; NODES])
+    ensures order { Order web.now.nodes (times_of order.new) }
 {
-    let mut seen = [0u8; NODES];
-    let mut stack = [0u16; NODES];
-    let mut ahead = [0u16; NODES];
-    let mut marks = [0u8; NODES];
-    let mut count: usize = 0;
-    let mut i: usize = 0;
-    while i < l {
-        let node = narrow(i);
-        let listed = explore(
-            source, first, latch, l, node, &mut seen, &mut stack, &mut ahead, count, &mut marks,
-            order,
-        );
-        count = enlist(node, l, listed, &mut marks, order);
-        i += 1;
+    let mut walk = Walk {
+        web: *web,
+        seen: [false; NODES],
+        stack: [0; NODES],
+        ahead: [0; NODES],
+        depth: 0,
+        listed: [false; NODES],
+        list: [0; NODES],
+        count: 0,
+    };
+    for i in 0..web.nodes {
+        let node = i as u16;
+        walk.explore(node);
+        walk.enlist(node);
     }
+    *order = walk.list;
 }

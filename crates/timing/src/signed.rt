@@ -6,9 +6,6 @@ ghost use Rattle.ticks.specs.Inside.Raised.{SIGNED};
 // Times are raised by this, so that none is below zero.
 pub(crate) const RAISE: u64 = 4_294_967_296;
 
-// Numbers below this are signed words too.
-pub(crate) const SIGNED: u64 = 9_223_372_036_854_775_808;
-
 // How far a lies after b.
 pub(crate) fn minus(a: u64, b: u64) -> i64
     requires { (a < SIGNED) × (b < SIGNED) }

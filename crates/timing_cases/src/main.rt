@@ -13,10 +13,10 @@
 
 ghost use Rattle.std.specs.Prelude.{◌≤◌};
 
-use std::io;
 use std::io::{Read, Write};
+use std::{fmt, io};
 use streams::read_full;
-use timing::{Answer, Way};
+use timing::Answer;
 
 const LONGEST_NAME: usize = 64;
 
@@ -28,42 +28,24 @@ const MOST_RESULTS: usize = 3_100;
 const MOST_ARCS: usize = 600;
 
 // Where no arc leads in.
-const MARK: i64 = 9_223_372_036_854_775_807;
+const MARK: i64 = i64::MAX;
 
 // What stands in every place that is lent. But for the mark no result is 2^41 or more in size, and no arc has so great a number.
 const STAYED: i64 = -4_611_686_018_427_387_904;
 
-const ARC_STAYED: u32 = 4_294_967_295;
+const ARC_STAYED: u32 = u32::MAX;
 
-fn say<W: Write>(output: &mut W, text: &[u8]) -> io::Result<()> {
-    output.write_all(text)
-}
+// A result or a gain, as it is printed: a number, or a dash for the mark.
+#[derive(Clone, Copy)]
+struct Printed(i64);
 
-fn say_number<W: Write>(output: &mut W, text: &[u8], n: u32) -> io::Result<()> {
-    say(output, text)?;
-    write!(output, "{n}")
-}
-
-// How far a number lies from zero. One is added to a number below it first, so that the least of its type is no exception.
-fn size(z: i64) -> u64 {
-    if z < 0 {
-        ((0 - (z + 1)) as u64) + 1
-    } else {
-        z as u64
+impl fmt::Display for Printed {
+    fn fmt<W: fmt::Write>(&self, f: &mut fmt::Formatter<W>) -> fmt::Result {
+        if self.0 == MARK {
+            return write!(f, "-");
+        }
+        write!(f, "{}", self.0)
     }
-}
-
-// A result or a gain.
-fn say_time<W: Write>(output: &mut W, z: i64) -> io::Result<()> {
-    if z == MARK {
-        return say(output, b" -");
-    }
-    if z < 0 {
-        say(output, b" -")?;
-    } else {
-        say(output, b" ")?;
-    }
-    write!(output, "{}", size(z))
 }
 
 // Before the place i, where all before `next` is said: says its number if places between stayed.
@@ -74,46 +56,31 @@ fn say_gap<W: Write>(output: &mut W, i: usize, next: usize) -> io::Result<()> {
     Ok(())
 }
 
-// The arc at the place i.
-fn say_arc<W: Write>(output: &mut W, arc: u32, i: usize, next: usize) -> io::Result<()> {
-    say_gap(output, i, next)?;
-    say_number(output, b" ", arc)
-}
-
-// The result at the place i.
-fn say_result<W: Write>(output: &mut W, res: i64, i: usize, next: usize) -> io::Result<()> {
-    if i % 6 == 0 {
-        write!(output, "\n{}", i / 6)?;
-    }
-    say_gap(output, i, next)?;
-    say_time(output, res)
-}
-
-// The places that changed.
+// The arcs that changed.
 fn say_arcs<W: Write>(output: &mut W, arcs: &[u32]) -> io::Result<()> {
     let mut next = 0;
-    let mut i = 0;
-    while i < arcs.len() {
-        let arc = arcs[i];
+    for (i, &arc) in arcs.iter().enumerate() {
         if arc != ARC_STAYED {
-            say_arc(output, arc, i, next)?;
+            say_gap(output, i, next)?;
+            write!(output, " {arc}")?;
             next = i + 1;
         }
-        i += 1;
     }
     Ok(())
 }
 
+// The results that changed. No plainer as one function with `say_arcs`: lines begin here and a mark is told, so only the loop would be left.
 fn say_results<W: Write>(output: &mut W, results: &[i64]) -> io::Result<()> {
     let mut next = 0;
-    let mut i = 0;
-    while i < results.len() {
-        let result = results[i];
+    for (i, &result) in results.iter().enumerate() {
         if result != STAYED {
-            say_result(output, result, i, next)?;
+            if i % 6 == 0 {
+                write!(output, "\n{}", i / 6)?;
+            }
+            say_gap(output, i, next)?;
+            write!(output, " {}", Printed(result))?;
             next = i + 1;
         }
-        i += 1;
     }
     Ok(())
 }
@@ -125,23 +92,13 @@ fn time<W: Write>(
     arcs: &mut [u32],
 ) -> io::Result<()> {
     match timing::timing(bytes, results, arcs) {
-        Answer::Refused(rule, culprit) => {
-            say_number(output, b"refused ", rule)?;
-            say_number(output, b" ", culprit)?;
-        }
-        Answer::Growing(count, gain) => {
-            say_number(output, b"loop ", count)?;
-            say_time(output, gain)?;
-            say(output, b":")?;
-        }
-        Answer::Timed(setups, holds) => {
-            say_number(output, b"timed ", setups)?;
-            say_number(output, b" ", holds)?;
-        }
+        Ok(Answer::Growing { arcs, gain }) => write!(output, "loop {arcs} {}:", Printed(gain))?,
+        Ok(Answer::Timed { setups, holds }) => write!(output, "timed {setups} {holds}")?,
+        Err(refusal) => write!(output, "{refusal}")?,
     }
     say_arcs(output, arcs)?;
     say_results(output, results)?;
-    say(output, b"\n")
+    writeln!(output)
 }
 
 fn ask<W: Write>(
@@ -150,122 +107,75 @@ fn ask<W: Write>(
     synchronizer: u32,
     arcs: &mut [u32],
 ) -> io::Result<()> {
-    say_number(output, b"path ", synchronizer)?;
+    write!(output, "path {synchronizer}")?;
     match timing::path(bytes, synchronizer, arcs) {
-        Way::Refused(rule, culprit) => {
-            say_number(output, b" refused ", rule)?;
-            say_number(output, b" ", culprit)?;
-        }
-        Way::Found(launch, count) => {
-            say_number(output, b" launch ", launch)?;
-            say_number(output, b" arcs ", count)?;
-            say(output, b":")?;
-        }
+        Ok(path) => write!(output, " launch {} arcs {}:", path.launch, path.count)?,
+        Err(refusal) => write!(output, " {refusal}")?,
     }
     say_arcs(output, arcs)?;
-    say(output, b"\n")
+    writeln!(output)
 }
 
-// Lends timing the front of two arrays.
-fn lend_both<W: Write>(output: &mut W, bytes: &[u8], results: usize, arcs: usize) -> io::Result<()>
-    requires results_bound { results ≤ 3100 }
-    requires arcs_bound { arcs ≤ 600 }
-{
-    let mut numbers = [STAYED; MOST_RESULTS];
-    let mut trail = [ARC_STAYED; MOST_ARCS];
-    time(output, bytes, &mut numbers[..results], &mut trail[..arcs])
-}
-
-// Lends path the front of an array.
-fn lend_arcs<W: Write>(
-    output: &mut W,
-    bytes: &[u8],
-    synchronizer: u32,
-    arcs: usize,
-) -> io::Result<()>
-    requires { arcs ≤ 600 }
-{
-    let mut trail = [ARC_STAYED; MOST_ARCS];
-    ask(output, bytes, synchronizer, &mut trail[..arcs])
-}
-
-fn ask_all<W: Write>(
-    output: &mut W,
-    bytes: &[u8],
-    first: u32,
-    end: u32,
-    arcs: usize,
-) -> io::Result<()>
-    requires { arcs ≤ 600 }
-{
-    let mut i = first;
-    while i < end {
-        lend_arcs(output, bytes, i, arcs)?;
-        i += 1;
-    }
-    Ok(())
-}
-
-// Fills both slices from the input, and prints what belongs to the frame.
-fn run_case<R: Read, W: Write>(
-    input: &mut R,
-    output: &mut W,
-    name: &mut [u8],
-    bytes: &mut [u8],
+// What stands at the front of a frame: how long its name and its image are, how many places are lent, and which paths are asked for.
+#[derive(Clone, Copy)]
+struct Frame {
+    name: usize,
+    image: usize,
     results: usize,
     arcs: usize,
     first: u32,
     end: u32,
-) -> io::Result<bool>
-    requires results_bound { results ≤ 3100 }
-    requires arcs_bound { arcs ≤ 600 }
-{
-    if read_full(input, name)? < name.len() {
-        return stop(output, b"frame cut short");
-    }
-    if read_full(input, bytes)? < bytes.len() {
-        return stop(output, b"frame cut short");
-    }
-    say(output, name)?;
-    say(output, b"\n")?;
-    lend_both(output, bytes, results, arcs)?;
-    ask_all(output, bytes, first, end, arcs)?;
-    Ok(true)
+    ghost name_fits: { name ≤ 64 },
+    ghost image_fits: { image ≤ 65536 },
+    ghost results_fit: { results ≤ 3100 },
+    ghost arcs_fit: { arcs ≤ 600 },
 }
 
-fn make_room<R: Read, W: Write>(
-    input: &mut R,
-    output: &mut W,
-    name_length: usize,
-    image_length: usize,
-    results: usize,
-    arcs: usize,
-    first: u32,
-    end: u32,
-) -> io::Result<bool>
-    requires name_length_bound { name_length ≤ 64 }
-    requires image_length_bound { image_length ≤ 65536 }
-    requires results_bound { results ≤ 3100 }
-    requires arcs_bound { arcs ≤ 600 }
-{
-    let mut name = [0u8; LONGEST_NAME];
-    let mut bytes = [0u8; LONGEST_IMAGE];
-    run_case(
-        input,
-        output,
-        &mut name[..name_length],
-        &mut bytes[..image_length],
-        results,
-        arcs,
-        first,
-        end,
-    )
+impl Frame {
+    // None where the frame is longer than the buffers.
+    fn read(head: &[u8; 24]) -> Option<Frame> {
+        let name = image::word(head, 0) as usize;
+        let image = image::word(head, 4) as usize;
+        let results = image::word(head, 8) as usize;
+        let arcs = image::word(head, 12) as usize;
+        if name > LONGEST_NAME
+            || image > LONGEST_IMAGE
+            || results > MOST_RESULTS
+            || arcs > MOST_ARCS
+        {
+            return None;
+        }
+        Some(Frame {
+            name,
+            image,
+            results,
+            arcs,
+            first: image::word(head, 16),
+            end: image::word(head, 20),
+        })
+    }
+
+    // Times the image and asks for the paths. Each call is lent the front of an array.
+    fn answer<W: Write>(&self, output: &mut W, bytes: &[u8]) -> io::Result<()> {
+        let mut results = [STAYED; MOST_RESULTS];
+        let mut arcs = [ARC_STAYED; MOST_ARCS];
+        time(
+            output,
+            bytes,
+            &mut results[..self.results],
+            &mut arcs[..self.arcs],
+        )?;
+        for synchronizer in self.first..self.end {
+            let mut arcs = [ARC_STAYED; MOST_ARCS];
+            ask(output, bytes, synchronizer, &mut arcs[..self.arcs])?;
+        }
+        Ok(())
+    }
 }
 
-// Where a frame is at fault: says so, and answers that the run ends.
-fn stop<W: Write>(output: &mut W, text: &[u8]) -> io::Result<bool> {
-    say(output, text)?;
-    say(output, b"\n")?;
+// Where a frame is at fault: says so, and answers that the run ends. image_cases has the same: no plainer as a function of a third crate.
+fn stop<W: Write>(output: &mut W, text: &str) -> io::Result<bool> {
+    writeln!(output, "{text}")?;
     Ok(false)
 }
 
@@ -276,31 +186,23 @@ fn run_frame<R: Read, W: Write>(input: &mut R, output: &mut W) -> io::Result<boo
     if got == 0 {
         return Ok(false);
     }
-    if got < 24 {
-        return stop(output, b"frame cut short");
+    if got < head.len() {
+        return stop(output, "frame cut short");
     }
-    let name_length = image::word(&head, 0) as usize;
-    let image_length = image::word(&head, 4) as usize;
-    let results = image::word(&head, 8) as usize;
-    let arcs = image::word(&head, 12) as usize;
-    if name_length > LONGEST_NAME || image_length > LONGEST_IMAGE {
-        return stop(output, b"frame too long");
+    let Some(frame) = Frame::read(&head) else {
+        return stop(output, "frame too long");
+    };
+    let mut name = [0u8; LONGEST_NAME];
+    let mut bytes = [0u8; LONGEST_IMAGE];
+    let name = &mut name[..frame.name];
+    let bytes = &mut bytes[..frame.image];
+    if read_full(input, name)? < name.len() || read_full(input, bytes)? < bytes.len() {
+        return stop(output, "frame cut short");
     }
-    if results > MOST_RESULTS || arcs > MOST_ARCS {
-        return stop(output, b"frame too long");
-    }
-    let first = image::word(&head, 16);
-    let end = image::word(&head, 20);
-    make_room(
-        input,
-        output,
-        name_length,
-        image_length,
-        results,
-        arcs,
-        first,
-        end,
-    )
+    output.write_all(name)?;
+    writeln!(output)?;
+    frame.answer(output, bytes)?;
+    Ok(true)
 }
 
 // A proved loop has to end, and nothing says that the input does: the turns count up to a number that no run

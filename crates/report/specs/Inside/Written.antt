@@ -1,6 +1,11 @@
--- Text written into a buffer.
-use Rattle.std.specs.Prelude.{◌≡◌, List, [], ◌∷◌, ◌++◌, ℕ, ◌+◌, ◌≤◌, length}
+-- Text written into a buffer: at its front, or from any place on.
+use Rattle.std.specs.Prelude.{◌≡◌, List, [], ◌∷◌, ◌++◌, ℕ, ◌+◌, ◌≤◌, drop, length}
 use Rattle.std.proofs.lemmas.List.Edits.{sets}
+
+-- the words stand at the front, and the rest of the buffer is as before
+pub record AtFront (words before : List ℕ) (size : ℕ) (after : List ℕ) : Type 0 where
+  pub sized : size ≡ length words
+  pub written : after ≡ words ++ drop size before
 
 -- there is room for the text from a place on
 pub record RoomFor (text : List ℕ) (at : ℕ) (buffer : List ℕ) : Type 0 where

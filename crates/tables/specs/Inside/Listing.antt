@@ -1,18 +1,18 @@
 -- An order of the nodes, and what finding one keeps: a list without repeats and a stack.
-use Rattle.std.specs.Prelude.{◌≡◌, List, ℕ, ◌+◌, ◌<◌, ◌≤◌, length, get_or}
-use Rattle.tables.specs.Inside.Sizes.{ARCS, NODES}
+use Rattle.std.specs.Prelude.{◌≡◌, Bool, true, false, List, ℕ, ◌<◌, ◌≤◌, length, get_or}
+use Rattle.tables.specs.Inside.Sizes.{NODES}
 
 -- j is one of the first n of the list
 abbrev pub Listed : (ℕ → ℕ) → ℕ → ℕ → Type 0
 Listed list n j = (x : ℕ) × (x < n) × (list x ≡ j)
 
 -- a list of nodes without repeats: those that are marked
-pub record Enlisted (l : ℕ) (marks list : List ℕ) (count : ℕ) : Type 0 where
+pub record Enlisted (l : ℕ) (marks : List Bool) (list : List ℕ) (count : ℕ) : Type 0 where
   pub long : (length marks ≡ NODES) × (length list ≡ NODES)
   pub nodes : (x : ℕ) → x < count → get_or list x 0 < l
   pub apart : (y : ℕ) → y < count → (x : ℕ) → x < y → get_or list x 0 ≡ get_or list y 0 → ⊥
-  pub marked : (x : ℕ) → x < count → get_or marks (get_or list x 0) 0 ≡ 1
-  pub listed : (j : ℕ) → get_or marks j 0 ≡ 1 → Listed (λ x. get_or list x 0) count j
+  pub marked : (x : ℕ) → x < count → get_or marks (get_or list x 0) false ≡ true
+  pub listed : (j : ℕ) → get_or marks j false ≡ true → ∥ Listed (λ x. get_or list x 0) count j ∥₁
 
 -- all l nodes, in some order
 pub record Order (l : ℕ) (list : ℕ → ℕ) : Type 0 where
@@ -24,10 +24,3 @@ pub record Stacked (l : ℕ) (stack : List ℕ) (depth : ℕ) : Type 0 where
   pub long : length stack ≡ NODES
   pub few : depth ≤ l
   pub nodes : (x : ℕ) → x < depth → get_or stack x 0 < l
-
--- the arcs that feed the nodes, up to the end of each node's own, leave nodes
-pub record Fed (source first : ℕ → ℕ) (l : ℕ) : Type 0 where
-  pub arcs : ℕ
-  pub few : arcs ≤ ARCS
-  pub sources : (a : ℕ) → a < arcs → source a < l
-  pub ends : (i : ℕ) → i < l → first (i + 1) ≤ arcs

@@ -13,6 +13,10 @@ side_of false = early
 abbrev pub times_of : List ℕ → ℕ → ℕ
 times_of table i = get_or table i 0
 
+-- and a table of flags
+abbrev pub flags_of : List Bool → ℕ → Bool
+flags_of table i = get_or table i false
+
 -- of each arc: the node that it leaves, and its weight with a cycle added, which is never negative
 pub record Arcs : Type 0 where
   pub source : ℕ → ℕ
@@ -30,12 +34,12 @@ pub record Net : Type 0 where
   pub launch : ℕ → ℕ
   pub latch : ℕ → Bool
 
-abbrev pub net_of : Arcs → List ℕ → List ℕ → List ℕ → Net
-net_of arcs first launch latch = record { arcs = arcs; first = times_of first; launch = times_of launch; latch = λ i. eqb (times_of latch i) 1 }
+abbrev pub net_of : Arcs → List ℕ → List ℕ → List Bool → Net
+net_of arcs first launch latch = record { arcs = arcs; first = times_of first; launch = times_of launch; latch = flags_of latch }
 
 -- tables with no launches: raising asks for none
-abbrev pub web_of : Arcs → List ℕ → List ℕ → Net
-web_of arcs first latch = record { arcs = arcs; first = times_of first; launch = λ i. 0; latch = λ i. eqb (times_of latch i) 1 }
+abbrev pub web_of : Arcs → List ℕ → List Bool → Net
+web_of arcs first latch = record { arcs = arcs; first = times_of first; launch = λ i. 0; latch = flags_of latch }
 
 -- the same tables with other launches
 abbrev pub launching : Net → (ℕ → ℕ) → Net

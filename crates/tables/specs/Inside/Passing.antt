@@ -1,5 +1,5 @@
 -- Passes over all nodes, each of them raised in place.
-use Rattle.std.specs.Prelude.{◌≡◌, Bool, true, false, List, ℕ, zero, suc, ◌+◌, ◌-◌, ◌*◌, ◌<◌, ◌≤◌, ℤ, length, get_or}
+use Rattle.std.specs.Prelude.{◌≡◌, Bool, true, false, List, ℕ, ◌+◌, ◌-◌, ◌*◌, ◌<◌, ◌≤◌, ℤ, length, get_or}
 use Rattle.flow.specs.Flow.{Flow, Good, Side, late, early}
 use Rattle.flow.specs.Walk.{GrowingRing, Shown}
 use Rattle.tables.specs.Inside.Net.{Net, times_of, launching, Ranged}

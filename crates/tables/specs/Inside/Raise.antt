@@ -1,5 +1,5 @@
 -- Departures raised in place, on the tables: one node after the other is given its arrival, where that is later than its departure.
-use Rattle.std.specs.Prelude.{◌≡◌, Bool, true, false, List, ℕ, zero, suc, ◌+◌, ◌-◌, ◌*◌, ◌<◌, ◌≤◌, get_or, set}
+use Rattle.std.specs.Prelude.{◌≡◌, Bool, true, false, List, ℕ, zero, suc, ◌+◌, ◌*◌, ◌<◌, ◌≤◌, get_or, set}
 use Rattle.ticks.specs.Inside.Raised.{RAISE, FAR}
 use Rattle.flow.specs.Flow.{Side}
 use Rattle.tables.specs.Inside.Net.{Arcs, Net, times_of, brought, degree, arrival_n, departing, Shaped, Ranged}

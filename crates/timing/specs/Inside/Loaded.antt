@@ -1,5 +1,5 @@
 -- What the loaded tables hold of a circuit, and what is loaded at each step. A table is a list, and reads 0 past its end.
-use Rattle.std.specs.Prelude.{◌≡◌, List, cond, ℕ, ◌-◌, ◌≤◌, ◌<◌, ltb, eqb, length, get_or}
+use Rattle.std.specs.Prelude.{◌≡◌, Bool, false, List, cond, ℕ, ◌-◌, ◌≤◌, ◌<◌, ltb, length, get_or}
 use Rattle.std.proofs.Math.IntN.{sub_ℕ}
 use Rattle.ticks.specs.Inside.Raised.{RAISE, lower}
 use Rattle.flow.specs.Flow.{Side, late, early}
@@ -8,27 +8,32 @@ use Rattle.circuit.specs.Clock.{tick, is_latch, launch, weight}
 use Rattle.tables.specs.Inside.Filled.{Filled}
 use Rattle.tables.specs.Inside.Models.{SideBySide}
 use Rattle.tables.specs.Inside.Net.{times_of}
+use Rattle.timing.specs.declared.load.Notes.{Notes}
+use Rattle.timing.specs.declared.loaded.Tables.{Tables}
 use Rattle.tables.specs.Inside.Sizes.{ARCS, FIRSTS, NODES, PHASES}
 
--- a synchronizer: its launch, raised, and 1 for a latch
-pub record Launched (c : Circuit) (i at mark : ℕ) : Type 0 where
+-- a synchronizer: its launch, raised, and whether it is a latch
+pub record Launched (c : Circuit) (i at : ℕ) (mark : Bool) : Type 0 where
   pub launch : lower at ≡ launch c i
-  pub latch : eqb mark 1 ≡ is_latch c i
+  pub latch : mark ≡ is_latch c i
 
 -- the first n synchronizers are loaded, and the tables have kept their sizes
-pub record NodesUpTo (n : ℕ) (c : Circuit) (launches latches : List ℕ) : Type 0 where
+pub record NodesUpTo (n : ℕ) (c : Circuit) (launches : List ℕ) (latches : List Bool) : Type 0 where
   pub long : (length launches ≡ NODES) × (length latches ≡ NODES)
-  pub each : (i : ℕ) → i < n → Launched c i (get_or launches i 0) (get_or latches i 0)
+  pub each : (i : ℕ) → i < n → Launched c i (get_or launches i 0) (get_or latches i false)
 
-abbrev pub LoadedNodes : Circuit → List ℕ → List ℕ → Type 0
+abbrev pub LoadedNodes : Circuit → List ℕ → List Bool → Type 0
 LoadedNodes c = NodesUpTo c.synchronizers c
 
--- what is noted of the phases and of the synchronizers while the arcs are loaded
-pub record Noted (c : Circuit) (ticks phases leasts greatests : List ℕ) : Type 0 where
-  pub tick : Filled PHASES (tick c) ticks c.phases
-  pub phase : Filled NODES c.phase phases c.synchronizers
-  pub least : Filled NODES c.least leasts c.synchronizers
-  pub greatest : Filled NODES c.greatest greatests c.synchronizers
+-- what is noted of the phases and of the first n synchronizers while the arcs are loaded
+pub record NotedUpTo (n : ℕ) (c : Circuit) (notes : Notes) : Type 0 where
+  pub tick : Filled PHASES (tick c) notes.ticks c.phases
+  pub phase : Filled NODES c.phase notes.phase n
+  pub least : Filled NODES c.least notes.least n
+  pub greatest : Filled NODES c.greatest notes.greatest n
+
+abbrev pub Noted : Circuit → Notes → Type 0
+Noted c = NotedUpTo c.synchronizers c
 
 -- the shift from a phase that closes at tick x to one that closes at tick y. For the phases of a sound circuit it is the circuit's (`shifted`, proofs/Shifts)
 unfoldable pub shift_of : ℕ → ℕ → ℕ → ℕ
@@ -69,13 +74,12 @@ pub record LoadedFirst (c : Circuit) (first : List ℕ) : Type 0 where
   pub long : length first ≡ FIRSTS
   pub into : SideBySide (times_of first) c.to c.synchronizers c.arcs
 
--- tables of the right sizes, and all of them loaded
-pub record Sized (sources lates earlies first launches latches : List ℕ) : Type 0 where
-  pub arcs : (length sources ≡ ARCS) × (length lates ≡ ARCS) × (length earlies ≡ ARCS)
-  pub firsts : length first ≡ FIRSTS
-  pub nodes : (length launches ≡ NODES) × (length latches ≡ NODES)
-
-pub record Loaded (c : Circuit) (sources lates earlies first launches latches : List ℕ) : Type 0 where
+-- all tables are loaded
+pub record Loaded (c : Circuit) (sources lates earlies first launches : List ℕ) (latches : List Bool) : Type 0 where
   pub nodes : LoadedNodes c launches latches
   pub arcs : LoadedArcs c sources lates earlies
   pub firsts : LoadedFirst c first
+
+-- the same of the tables as the engine holds them
+abbrev pub LoadedInto : Circuit → Tables → Type 0
+LoadedInto c t = Loaded c t.source t.late t.early t.first t.launch t.latch

@@ -1,9 +1,13 @@
 -- What the search for a growing ring keeps: the walk back over parents.
-use Rattle.std.specs.Prelude.{◌≡◌, List, [], ◌∷◌, ◌++◌, ◌≢◌, ℕ, suc, ◌+◌, ◌-◌, ◌*◌, ◌<◌, ◌≤◌, ℤ, length, get_or, take, drop}
+use Rattle.std.specs.Prelude.{◌≡◌, List, [], ◌∷◌, ◌++◌, ◌≢◌, ℕ, suc, ◌+◌, ◌-◌, ◌*◌, ◌<◌, ◌≤◌, ℤ, pos, Option, None, Some, length, get_or, take, drop}
 use Rattle.std.proofs.Math.IntN.{sub_ℕ}
 pub use Rattle.flow.specs.Inside.WalkBack.{route_back}
-use Rattle.tables.specs.Inside.Parents.{Notes}
+use Rattle.tables.specs.Inside.Net.{times_of}
+use Rattle.tables.specs.Inside.Parents.{Notes, noted}
 use Rattle.tables.specs.Inside.Sizes.{NODES}
+use Rattle.timing.specs.declared.ring.Ring.{Ring}
+use Rattle.timing.specs.declared.web.Web.{Web}
+use Rattle.timing.specs.Inside.Web.{net_in}
 
 -- the first node that comes a second time
 pub record Repeats (node : ℕ → ℕ) (l first second : ℕ) : Type 0 where
@@ -12,11 +16,11 @@ pub record Repeats (node : ℕ → ℕ) (l first second : ℕ) : Type 0 where
   pub same : node first ≡ node second
   pub fresh : (y : ℕ) → y < second → (x : ℕ) → x < y → node x ≢ node y
 
--- each place before d is noted under its node, plus one, and nothing else is
-pub record Placed (node : ℕ → ℕ) (d : ℕ) (places : List ℕ) : Type 0 where
+-- each place before d is noted under its node, and nothing else is
+pub record Placed (node : ℕ → ℕ) (d : ℕ) (places : List (Option ℕ)) : Type 0 where
   pub long : length places ≡ NODES
-  pub noted : (x : ℕ) → x < d → get_or places (node x) 0 ≡ x + 1
-  pub real : (i x : ℕ) → get_or places i 0 ≡ x + 1 → (x < d) × (node x ≡ i)
+  pub noted : (x : ℕ) → x < d → get_or places (node x) None ≡ Some x
+  pub real : (i x : ℕ) → get_or places i None ≡ Some x → (x < d) × (node x ≡ i)
 
 -- of the places after `first`, up to `second`, `low` has the lowest node
 pub record LowestBetween (node : ℕ → ℕ) (first second low : ℕ) : Type 0 where
@@ -80,9 +84,21 @@ pub record Short (k : Notes) (l u : ℕ) : Type 0 where
   pub walk : WalkedBack k l u length nodes trail
   pub ends : length < l
 
+-- what a walk back goes by, on the tables of one side
+abbrev pub notes_in : Web → List ℕ → List ℕ → List ℕ → Notes
+notes_in w parents base departs = noted (net_in w) (times_of parents) (times_of base) (times_of departs)
+
 -- what the search after pass n came to
-pub data Closed (k : Notes) (lead : ℕ → ℕ) (cycle l u n : ℕ) : ℕ → ℤ → List ℕ → List ℕ → Type 0 where
+pub data Closed (k : Notes) (lead : ℕ → ℕ) (cycle l u n : ℕ) : Option Ring → List ℕ → List ℕ → Type 0 where
   -- no ring, or it was not asked; after pass l it is
-  short : {gain : ℤ} {arcs : List ℕ} → (n ≡ l → Short k l u) → Closed k lead cycle l u n 0 gain arcs arcs
-  ring : {count : ℕ} {gain : ℤ} {before after : List ℕ} → Looped k lead cycle l u count gain before after →
-      Closed k lead cycle l u n count gain before after
+  short : {arcs : List ℕ} → (n ≡ l → Short k l u) → Closed k lead cycle l u n None arcs arcs
+  ring : {r : Ring} {before after : List ℕ} → Looped k lead cycle l u r.count r.gain before after → Closed k lead cycle l u n (Some r) before after
+
+-- how many arcs are counted, and what they gain: none where there is no ring
+abbrev pub count_of : Option Ring → ℕ
+count_of None = 0
+count_of (Some r) = r.count
+
+abbrev pub gain_of : Option Ring → ℤ
+gain_of None = pos 0
+gain_of (Some r) = r.gain

@@ -1,15 +1,7 @@
--- What stepping back over the tables leans on, and what it leaves.
-use Rattle.std.specs.Prelude.{◌≡◌, List, ℕ, suc, ◌<◌, set}
+-- What stepping back over the tables leaves.
+use Rattle.std.specs.Prelude.{◌≡◌, List, ℕ, suc, set}
 use Rattle.tables.specs.Inside.Net.{Arcs}
-use Rattle.tables.specs.Inside.Trail.{Via, Traced, Stepping}
-use Rattle.timing.specs.Inside.Ready.{Works}
-use Rattle.timing.specs.Inside.Results.{bare}
-
--- the tables can be worked with, no rank is above the nodes' number, and each step back lowers the rank
-pub record Traceable (g : Arcs) (first : ℕ → ℕ) (l : ℕ) (D R : ℕ → ℕ) : Type 0 where
-  pub works : Works (bare g first) D l
-  pub low : (i : ℕ) → i < l → R i < l
-  pub stepping : Stepping g first D R l
+use Rattle.tables.specs.Inside.Trail.{Via, Traced}
 
 -- one step back, from i to s over its arc, which is stored where the rank of s says
 pub record Stepped (g : Arcs) (first D R : ℕ → ℕ) (i s : ℕ) (before after : List ℕ) : Type 0 where

@@ -1,62 +1,84 @@
 -- `check_records` asks the rules in their order: the first that finds a record decides. Where all are plainly good, none is found.
-use mathlib.Core.Path.{◌≡◌}
+use mathlib.Core.Path.{◌≡◌, sym}
+use mathlib.Core.List.{List}
+use Prim.Native.Nat.{ℕ}
 use native.Mathlib.Nat.{le_refl}
-use borrow.Author.Tests.{lt-ltb, le-ltb}
-use Rattle.image.specs.Rules.{breaks_of}
+use borrow.Author.Tests.{le-ltb}
+use Rattle.std.specs.Prelude.{Result, Ok}
+use Rattle.std.proofs.Common.{rules}
+use Rattle.image.specs.Rules.{bad_phase, bad_synchronizer, bad_arc, bad_order}
 use Rattle.image.specs.Checks.{records_of, refuse_at}
-use Rattle.image.specs.declared.rules.Rule.TheVariants.{Synchronizers, Arcs, Order}
-use Rattle.image.specs.declared.checks.Checked.TheVariants.{Good}
+use Rattle.image.specs.declared.header.Image.{Image}
+use Rattle.image.specs.declared.refusal.Refusal.{Refusal}
+use Rattle.image.specs.declared.refusal.Rule.TheVariants as by
 use Rattle.image.proofs.FirstBad.{lowest_none}
-use Rattle.image.proofs.Tests.{both_iff}
+use Rattle.image.proofs.Refusing.{refused, passed_over}
 use Rattle.image.proofs.checks.check_records.Goals as goal
-use Rattle.image.proofs.checks.check_records.Goals.{Else-arc-image, Else-phase-image, Else-synchronizer-image}
+use Rattle.image.proofs.checks.check_records.Goals.{In_default, In_default-lowest, In_default-lowest-2}
 
-pub returns-then-phase-image : goal.returns-then-phase-image
-unfolding records_of
-returns-then-phase-image c = rw (← c.lowest-phase.ensures, lt-ltb _ _ c.if-phase-image.true)
+-- what is still to be asked: rules 9, 8 and 9, 7 to 9
+module _ (bytes : List ℕ) (image : Image) where
+  abbrev order : Result Image Refusal
+  order = refuse_at (bad_order bytes image) image.arcs by.Order (Ok image)
+
+  abbrev arcs : Result Image Refusal
+  arcs = refuse_at (bad_arc bytes image) image.arcs by.Arcs order
+
+  abbrev synchronizers : Result Image Refusal
+  synchronizers = refuse_at (bad_synchronizer bytes image) image.synchronizers by.Synchronizers arcs
 
 -- where no phase is at fault, the other records decide
-after-phases : (c : goal.Else-phase-image) → (let fails = breaks_of c.args.bytes.now c.args.image in
-    records_of c.args.bytes.now c.args.image
-    ≡ refuse_at (fails Synchronizers) c.args.image.synchronizers 7 (refuse_at (fails Arcs) c.args.image.arcs 8 (refuse_at (fails Order) c.args.image.arcs 9 (Good c.args.image))))
+after-phases : (c : In_default) → records_of c.args.bytes.now c.args.image ≡ synchronizers c.args.bytes.now c.args.image
 unfolding records_of
-after-phases c = rw (← c.lowest-phase.ensures, le-ltb _ _ c.if-phase-image.false)
+after-phases c = passed_over _ _ _ _ (c.lowest.ensures (bad_phase c.args.bytes.now c.args.image) (λ i r p. search rules)) c.in_default.not-Some
 
-pub returns-then-synchronizers_good-arcs_good : goal.returns-then-synchronizers_good-arcs_good
-returns-then-synchronizers_good-arcs_good c =
-    let both = (both_iff _ _ (λ h. h, λ h. h) (λ h. h, λ h. h)).0 c.if-synchronizers_good-arcs_good.true in
-    let arcs = c.arcs_good.ensures both.1 in
+-- where no synchronizer is at fault either
+after-synchronizers : (c : In_default-lowest) → synchronizers c.args.bytes.now c.args.image ≡ arcs c.args.bytes.now c.args.image
+after-synchronizers c = passed_over _ _ _ _ (c.lowest-2.ensures (bad_synchronizer c.args.bytes.now c.args.image) (λ i r p. search rules)) c.in_default-lowest.not-Some
+
+-- where no arc's fields are
+after-arcs : (c : In_default-lowest-2) → arcs c.args.bytes.now c.args.image ≡ order c.args.bytes.now c.args.image
+after-arcs c = passed_over _ _ _ _ (c.lowest-3.ensures (bad_arc c.args.bytes.now c.args.image) (λ i r p. search rules)) c.in_default-lowest-2.not-Some
+
+pub returns-in-Some : goal.returns-in-Some
+unfolding records_of
+returns-in-Some c = rw c.at.ensures (sym (refused _ _ _ _ (c.lowest.ensures (bad_phase c.args.bytes.now c.args.image) (λ i r p. search rules)) c.in-Some.is))
+
+pub returns-then-arcs_good : goal.returns-then-arcs_good
+returns-then-arcs_good c =
+    let arcs = c.arcs_good.ensures c.if-arcs_good.true in
     rw (
-      after-phases (goal.at.returns-then-synchronizers_good-arcs_good c).Else-phase-image,
-      lowest_none _ _ (c.synchronizers_good.ensures both.0),
+      after-phases (goal.at.returns-then-arcs_good c).In_default,
+      lowest_none _ _ (c.synchronizers_good.ensures c.if-synchronizers_good.true),
       le-ltb _ _ (le_refl c.args.image.synchronizers),
       lowest_none _ _ arcs.0,
       lowest_none _ _ arcs.1,
       le-ltb _ _ (le_refl c.args.image.arcs),
     )
 
-pub returns-then-synchronizer-image : goal.returns-then-synchronizer-image
-returns-then-synchronizer-image c = rw (after-phases (goal.at.returns-then-synchronizer-image c).Else-phase-image, ← c.lowest-synchronizer.ensures, lt-ltb _ _ c.if-synchronizer-image.true)
+pub returns-in-Some-lowest : goal.returns-in-Some-lowest
+returns-in-Some-lowest c =
+    rw (after-phases (goal.at.returns-in-Some-lowest c).In_default, c.at-in-Some-lowest.ensures)
+    (sym (refused _ _ _ _ (c.lowest-2.ensures (bad_synchronizer c.args.bytes.now c.args.image) (λ i r p. search rules)) c.in-Some-lowest.is))
 
--- where no synchronizer is at fault either
-after-synchronizers : (c : goal.Else-synchronizer-image) → (let fails = breaks_of c.args.bytes.now c.args.image in
-    records_of c.args.bytes.now c.args.image
-    ≡ refuse_at (fails Synchronizers) c.args.image.synchronizers 7 (refuse_at (fails Arcs) c.args.image.arcs 8 (refuse_at (fails Order) c.args.image.arcs 9 (Good c.args.image)))
-    → records_of c.args.bytes.now c.args.image ≡ refuse_at (fails Arcs) c.args.image.arcs 8 (refuse_at (fails Order) c.args.image.arcs 9 (Good c.args.image)))
-after-synchronizers c phases =
-    rw (phases, ← c.lowest-synchronizer.ensures, le-ltb _ _ c.if-synchronizer-image.false)
+pub returns-in-Some-lowest-2 : goal.returns-in-Some-lowest-2
+returns-in-Some-lowest-2 c =
+    rw (after-phases (goal.at.returns-in-Some-lowest-2 c).In_default, after-synchronizers (goal.at.returns-in-Some-lowest-2 c).In_default-lowest, c.at-in-Some-lowest-2.ensures)
+    (sym (refused _ _ _ _ (c.lowest-3.ensures (bad_arc c.args.bytes.now c.args.image) (λ i r p. search rules)) c.in-Some-lowest-2.is))
 
-pub returns-then-arc-image : goal.returns-then-arc-image
-returns-then-arc-image c = rw (after-synchronizers (goal.at.returns-then-arc-image c).Else-synchronizer-image (after-phases (goal.at.returns-then-arc-image c).Else-phase-image), ← c.lowest-arc.ensures, lt-ltb _ _ c.if-arc-image.true)
-
--- where no arc's fields are
-after-arcs : (c : goal.Else-arc-image) → (let fails = breaks_of c.args.bytes.now c.args.image in
-    records_of c.args.bytes.now c.args.image ≡ refuse_at (fails Arcs) c.args.image.arcs 8 (refuse_at (fails Order) c.args.image.arcs 9 (Good c.args.image))
-    → records_of c.args.bytes.now c.args.image ≡ refuse_at (breaks_of c.args.bytes.now c.args.image Order) c.args.image.arcs 9 (Good c.args.image))
-after-arcs c synchronizers = rw (synchronizers, ← c.lowest-arc.ensures, le-ltb _ _ c.if-arc-image.false)
-
-pub returns-then-unordered-image : goal.returns-then-unordered-image
-returns-then-unordered-image c = rw (after-arcs (goal.at.returns-then-unordered-image c).Else-arc-image (after-synchronizers (goal.at.returns-then-unordered-image c).Else-synchronizer-image (after-phases (goal.at.returns-then-unordered-image c).Else-phase-image)), ← c.lowest-unordered.ensures, lt-ltb _ _ c.if-unordered-image.true)
+pub returns-in-Some-lowest-3 : goal.returns-in-Some-lowest-3
+returns-in-Some-lowest-3 c =
+    rw (
+      after-phases (goal.at.returns-in-Some-lowest-3 c).In_default,
+      after-synchronizers (goal.at.returns-in-Some-lowest-3 c).In_default-lowest,
+      after-arcs (goal.at.returns-in-Some-lowest-3 c).In_default-lowest-2,
+      c.at-in-Some-lowest-3.ensures,
+    ) (sym (refused _ _ _ _ (c.lowest-4.ensures (bad_order c.args.bytes.now c.args.image) (λ i r p. search rules)) c.in-Some-lowest-3.is))
 
 pub returns : goal.returns
-returns c = rw (after-arcs (goal.at.returns c).Else-arc-image (after-synchronizers (goal.at.returns c).Else-synchronizer-image (after-phases (goal.at.returns c).Else-phase-image)), ← c.lowest-unordered.ensures, le-ltb _ _ c.if-unordered-image.false)
+returns c =
+    rw (
+      after-phases (goal.at.returns c).In_default,
+      after-synchronizers (goal.at.returns c).In_default-lowest,
+      after-arcs (goal.at.returns c).In_default-lowest-2,
+    ) (sym (passed_over _ _ _ _ (c.lowest-4.ensures (bad_order c.args.bytes.now c.args.image) (λ i r p. search rules)) c.in_default-lowest-3.not-Some))

@@ -19,8 +19,7 @@ pub loop-i-preserved : goal.loop-i-preserved
 unfolding bad_arc
 loop-i-preserved c =
     let q : c.loop-i.i + 1 - 1 ≡ c.loop-i.i = omega arith in (
-      omega arith,
-      below_more _ _ c.loop-i.invariant.1 (rw (← c.of-arc.ensures) (sym c.bad_fields.ensures ∙ (sound (goal.at.loop-i-preserved c).Else-bad_fields-key).0)),
-      below_more _ _ c.loop-i.invariant.2 (in_order c.args.bytes.now c.args.image c.loop-i.i c.loop-i.next (rw (← c.of-arc.ensures) (omega arith)) c.loop-i.invariant.3 (rw (← c.of-arc.ensures) (sound (goal.at.loop-i-preserved c).Else-bad_fields-key).1)),
+      below_more _ _ c.loop-i.invariant.0 (rw (← c.of-arc.ensures) (sym c.bad_fields.ensures ∙ (sound (goal.at.loop-i-preserved c).Else-bad_fields-key).0)),
+      below_more _ _ c.loop-i.invariant.1 (in_order c.args.bytes.now c.args.image c.loop-i.i c.loop-i.next (rw (← c.of-arc.ensures) (omega arith)) c.loop-i.invariant.2 (rw (← c.of-arc.ensures) (sound (goal.at.loop-i-preserved c).Else-bad_fields-key).1)),
       λ _. rw (q, ← c.of-arc.ensures) refl,
     )

@@ -1,13 +1,10 @@
--- `lowest` finds the lowest record at fault: no record before place i is, and the first that is decides the whole table.
-use mathlib.Core.Path.{sym, ◌∙◌}
-use native.Mathlib.Omega.{arith}
-use Rattle.image.proofs.FirstBad.{lowest_eq}
+-- `lowest` searches from the front, and stops at the first number that is bad.
+use Rattle.std.proofs.Common.{◌≡◌, true, false, rules, tests}
+use Rattle.std.proofs.lemmas.Iterator.{first_from_Range}
+use Rattle.image.proofs.FirstBad.{lowest_by}
 use Rattle.image.proofs.rules.lowest.Goals as goal
 
-pub returns-then-breaks : goal.returns-then-breaks
-returns-then-breaks c =
-    lowest_eq _ _ (record { within = c.loop-i.invariant.0; passed = c.loop-i.invariant.1; fails = λ _. sym c.breaks.ensures ∙ c.if-breaks.true })
-
 pub returns : goal.returns
-returns c =
-    lowest_eq _ _ (record { within = c.loop-i.invariant.0; passed = c.loop-i.invariant.1; fails = λ k. let z : ⊥ = omega arith in absurd z })
+returns g c test computes =
+    lowest_by test c.args.count c.find.result
+    (first_from_Range _ _ _ _ (λ i. test i ≡ true) (λ i. test i ≡ false) c.find.ensures.ran (λ x q k. search (rules, tests, computes)) (λ x q k. (search rules, search (rules, tests, computes))))

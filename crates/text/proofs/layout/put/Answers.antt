@@ -1,11 +1,9 @@
 -- `put` stores the four bytes of a word, where they have room.
-use mathlib.Core.Path.{refl}
+use mathlib.Core.Path.{◌∙◌}
 use native.Mathlib.Omega.{arith}
-use Rattle.text.proofs.Storing.{no_room, four_bytes}
+use Rattle.text.proofs.Storing.{four_bytes}
 use Rattle.text.proofs.layout.put.Goals as goal
 
-pub returns-then-at-gt-LAST : goal.returns-then-at-gt-LAST
-returns-then-at-gt-LAST c = record { behind = refl; stored = no_room c.args.room.now c.args.at c.args.word (omega (arith, c.if-at-gt-LAST.true)) }
-
-pub returns : goal.returns
-returns c = record { behind = refl; stored = four_bytes c.args.room.now c.args.at c.args.word (omega (arith, c.if-at-gt-LAST.false)) }
+pub returns-then-at-le-MOST : goal.returns-then-at-le-MOST
+returns-then-at-le-MOST c =
+    four_bytes c.args.room.now _ c.args.at _ c.args.word (c.copy_from_slice.ensures.after ∙ c.to_le_bytes.ensures) (omega arith) (omega arith) c.if-at-le-MOST.true

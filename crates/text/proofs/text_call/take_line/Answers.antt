@@ -1,28 +1,26 @@
 -- `take_line` reads a line; one that is good is laid out, and at any other reading stops.
 use mathlib.Core.Path.{sym, ◌∙◌}
-use mathlib.Core.Logic.{◌≢◌}
-use native.Mathlib.Omega.{arith}
-use Rattle.grammar.specs.Text.{InPlace}
-use Rattle.grammar.specs.Inside.Reader.{lost}
-use Rattle.grammar.proofs.Onward.{line_onward}
-use Rattle.grammar.proofs.InOrder.{in_place_lem, placed}
-use Rattle.text.proofs.Reading.{good_line, bad_line, at_more, few, goes_on, stops}
+use Rattle.grammar.proofs.InOrder.{in_place_lem}
+use Rattle.text.proofs.Reading.{at_more, few, onward, goes_on, no_line, misplaced}
 use Rattle.text.proofs.text_call.take_line.Goals as goal
 
+pub returns-in_err-read : goal.returns-in_err-read
+returns-in_err-read c =
+    rw c.from_residual.ensures (no_line c.args.text.now c.requires.0 c.args.t _ c.requires.2 c.requires.1 (sym c.in_err-read.ensures))
+
 pub lay-requires : goal.lay-requires
-lay-requires c =
-    few c.args.text.now c.requires.0 c.args.t c.args.room.now c.requires.2
+lay-requires c = few c.args.text.now c.requires.0 c.args.t _ c.requires.2
 
-pub returns-then-read-in_place : goal.returns-then-read-in_place
-returns-then-read-in_place c =
-    let good = good_line c.read_line-read.result.next c.in_place.result c.if-read-in_place.true in
-    let here = in_place_lem c.args.t.stage c.read_line-read.result.line (sym c.in_place.ensures ∙ good.1) in
-    let on = goes_on c.args.text.now c.requires.0 c.args.t c.args.room.now c.requires.2 c.requires.1 (rw (← c.read_line-read.ensures) good.0) (rw (← c.read_line-read.ensures) here) in
-    record { onward = rw (c.lay.ensures.counted, at_more c.read_line-read.result.line c.args.t c.read_line-read.result.next, c.read_line-read.ensures) (line_onward c.args.text.now c.args.t.at c.requires.0 c.requires.1); reached = rw (c.lay.ensures.counted, c.lay.ensures.laid, c.read_line-read.ensures) on }
+pub returns-then-in_place : goal.returns-then-in_place
+returns-then-in_place c =
+    let read = c.in_ok-read.read in
+    let here = in_place_lem _ read.line (sym c.in_place.ensures ∙ c.if-in_place.true) in
+    rw (c.lay.ensures.counted, c.lay.ensures.laid, at_more read.line c.args.t read.next) (
+      onward c.args.text.now c.requires.0 c.args.t _ c.requires.2 c.requires.1 read (sym c.in_ok-read.ensures),
+      goes_on c.args.text.now c.requires.0 c.args.t _ c.requires.2 c.requires.1 read (sym c.in_ok-read.ensures) here,
+    )
 
-pub returns : goal.returns
-returns c =
-    let off = bad_line c.read_line-read.result.next c.in_place.result c.if-read-in_place.false in
-    let none : c.read_line-read.result.next ≢ lost → InPlace c.args.t.stage c.read_line-read.result.line → ⊥ =
-    λ found here. off found (c.in_place.ensures ∙ placed c.args.t.stage c.read_line-read.result.line here) in
-    record { onward = omega (arith, c.requires.0, c.requires.1); reached = stops c.args.text.now c.requires.0 c.args.t c.args.room.now c.requires.2 c.requires.1 (rw (← c.read_line-read.ensures) none) }
+pub returns-else-in_place : goal.returns-else-in_place
+returns-else-in_place c =
+    misplaced c.args.text.now c.requires.0 c.args.t _ c.requires.2 c.requires.1 c.in_ok-read.read (sym c.in_ok-read.ensures)
+    (sym c.in_place.ensures ∙ c.if-in_place.false)

@@ -15,14 +15,14 @@ abbrev pub decreases-read_expression : goal.decreases-read_expression
 decreases-read_expression l = 3 * (length l.text.now - l.at) + 2
 
 -- what has been read so far is where the reader has come to
-abbrev pub invariant-read_branch-loop-w : goal.invariant-read_branch-loop-w
-invariant-read_branch-loop-w l = Reached series l.depth l.text l.fn.at l.w
+abbrev pub invariant-read_branch-loop-next : goal.invariant-read_branch-loop-next
+invariant-read_branch-loop-next l = Reached series l.depth l.text l.fn.at l.w
 
-abbrev pub decreases-read_branch-loop-w : goal.decreases-read_branch-loop-w
-decreases-read_branch-loop-w l = length l.text - l.w.next
+abbrev pub decreases-read_branch-loop-next : goal.decreases-read_branch-loop-next
+decreases-read_branch-loop-next l = length l.text - l.w.next
 
-abbrev pub invariant-read_expression-loop-w : goal.invariant-read_expression-loop-w
-invariant-read_expression-loop-w l = Reached parallel l.depth l.text l.fn.at l.w
+abbrev pub invariant-read_expression-loop-next : goal.invariant-read_expression-loop-next
+invariant-read_expression-loop-next l = Reached parallel l.depth l.text l.fn.at l.w
 
-abbrev pub decreases-read_expression-loop-w : goal.decreases-read_expression-loop-w
-decreases-read_expression-loop-w l = length l.text - l.w.next
+abbrev pub decreases-read_expression-loop-next : goal.decreases-read_expression-loop-next
+decreases-read_expression-loop-next l = length l.text - l.w.next

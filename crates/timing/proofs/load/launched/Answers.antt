@@ -1,35 +1,28 @@
 -- `launched` gives a synchronizer's launch and kind: the opening for a latch, the cycle for a flip-flop.
-use mathlib.Core.Path.{◌≡◌}
-use Prim.Native.Nat.{◌<◌}
-use lib.ListN.{get_or}
+use mathlib.Core.Path.{sym, ◌∙◌}
+use native.Mathlib.Omega.{arith}
 use Rattle.circuit.specs.Circuit.{circuit_of}
+use Rattle.timing.specs.Inside.Loaded.{Launched}
+use Rattle.timing.proofs.RecordsRead.{accepted}
 use Rattle.timing.proofs.Launches.{phase_known, noted_known, launched_latch, launched_flop}
-use Rattle.tables.specs.Inside.Sizes.{PHASES}
 use Rattle.timing.proofs.load.launched.Goals as goal
-use Rattle.timing.proofs.load.launched.Goals.{After-of-s}
+use Rattle.timing.proofs.load.launched.Goals.{then-s-number, else-s-number}
 
--- the synchronizer's phase is one of the circuit's
-known : (c : goal.After-of-s) →
-    (c.of-s.result.phase < (circuit_of c.args.bytes.now).phases) × (c.of-s.result.phase < PHASES)
-known c = phase_known c.requires.valid c.requires.image_value c.requires.i_lt_synchronizers c.of-s.ensures
+pub bounds-notes-s : goal.bounds-notes-s
+bounds-notes-s c = let a = accepted c.args.good.now.good in (phase_known a.valid a.same c.requires.i_lt_synchronizers c.of-s.ensures).1
 
--- and the table has how long it is active
-active : (c : goal.After-of-s) →
-    get_or c.args.active.now c.of-s.result.phase 0 ≡ (circuit_of c.args.bytes.now).active c.of-s.result.phase
-active c = c.requires.filled.holds _ (known c).0
+pub overflow_cast-result : goal.overflow_cast-result
+overflow_cast-result c =
+    let a = accepted c.args.good.now.good in
+    let k = (phase_known a.valid a.same c.requires.i_lt_synchronizers c.of-s.ensures).1 in record { fits = omega arith }
 
-pub returns-then-s-eq0 : goal.returns-then-s-eq0
-returns-then-s-eq0 c =
-    let h = c.requires in
-    record {
-      launched = launched_latch h.valid h.image_value h.i_lt_synchronizers c.of-s.ensures c.if-s-eq0.true (active (goal.at.returns-then-s-eq0 c).After-of-s);
-      phase_value = noted_known h.valid h.image_value h.i_lt_synchronizers c.of-s.ensures;
-    }
-
-pub returns-else-s-eq0 : goal.returns-else-s-eq0
-returns-else-s-eq0 c =
-    let h = c.requires in
-    record {
-      launched = launched_flop h.valid h.image_value h.i_lt_synchronizers c.of-s.ensures c.if-s-eq0.false;
-      phase_value = noted_known h.valid h.image_value h.i_lt_synchronizers c.of-s.ensures;
-    }
+pub returns : goal.returns
+returns c =
+    let a = accepted c.args.good.now.good in
+    let h = c.requires.i_lt_synchronizers in
+    let launched : Launched (circuit_of c.args.good.now.bytes.now) c.args.i c.if-s-number.launch.0 c.if-s-number.launch.1 =
+    elim c.if-s-number.branch [
+      | then-s-number w ↦ rw w.launch-is (launched_latch a.valid a.same h c.of-s.ensures (w.if-s-number.true ∙ c.number.ensures) (c.requires.active_filled.holds _ (phase_known a.valid a.same h c.of-s.ensures).0))
+      | else-s-number w ↦ rw w.launch-is (launched_flop a.valid a.same h c.of-s.ensures (λ z. w.if-s-number.false (z ∙ sym c.number.ensures)))
+    ] in
+    record { launched = launched; phase_value = noted_known a.valid a.same h c.of-s.ensures }

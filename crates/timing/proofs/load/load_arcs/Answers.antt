@@ -4,35 +4,36 @@ use mathlib.Core.Path.{◌≡◌}
 use native.Mathlib.Omega.{arith}
 use Rattle.circuit.specs.Circuit.{circuit_of}
 use Rattle.circuit.proofs.Sound.{sound}
-use Rattle.timing.proofs.RecordsRead.{counts}
+use Rattle.timing.proofs.RecordsRead.{accepted}
 use Rattle.timing.proofs.OneMoreLoaded.{arcs_more}
 use Rattle.timing.proofs.Splitting.{entered_more, entered_all}
 use Rattle.timing.proofs.load.load_arcs.Goals as goal
 use Rattle.timing.proofs.load.load_arcs.Goals.{In-loop-a}
 
 -- the next arc is one of the circuit's
-here : (c : goal.In-loop-a) → c.loop-a.a < (circuit_of c.args.bytes.now).arcs
-here c = omega (arith, (counts _ _ c.requires.valid.1).arcs, c.loop-a-test.true)
+here : (c : goal.In-loop-a) → c.loop-a.a < (circuit_of c.args.good.now.bytes.now).arcs
+here c = omega (arith, (accepted c.args.good.now.good).counts.arcs, c.loop-a-test.true)
 
 pub enter-requires : goal.enter-requires
 enter-requires c =
-    let v = sound _ c.requires.valid.0 in
-    (omega (arith, c.led-loaded.ensures.target_value, v.to _ (here (goal.at.enter-requires c).In-loop-a), v.synchronizers), c.loop-a.invariant.4.long)
+    let v = sound _ (accepted c.args.good.now.good).valid in
+    omega (arith, c.led-lead.ensures.target_value, v.to _ (here (goal.at.enter-requires c).In-loop-a), v.synchronizers)
 
 pub loop-a-preserved : goal.loop-a-preserved
 loop-a-preserved c =
-    let v = sound _ c.requires.valid.0 in
-    let s = rw c.narrow.ensures at c.enter.ensures in (
-      omega arith,
-      c.loop-a.invariant.1,
+    let v = sound _ (accepted c.args.good.now.good).valid in (
+      arcs_more c.loop-a.invariant.0 (omega arith) c.led-lead.ensures.loaded_arc,
+      entered_more v c.loop-a.invariant.1 c.enter.ensures (here (goal.at.loop-a-preserved c).In-loop-a) c.led-lead.ensures.target_value,
       c.loop-a.invariant.2,
-      arcs_more c.loop-a.invariant.3 (omega arith) c.led-loaded.ensures.loaded_arc,
-      entered_more v c.loop-a.invariant.4 s (here (goal.at.loop-a-preserved c).In-loop-a) c.led-loaded.ensures.target_value,
     )
 
 pub returns : goal.returns
 returns c =
-    let n = counts _ _ c.requires.valid.1 in
-    let all : c.loop-a.a ≡ (circuit_of c.args.bytes.now).arcs = omega (arith, n.arcs) in
-    let s = rw c.narrow-2.ensures at c.enter-2.ensures in
-    record { loaded_arcs = rw all at c.loop-a.invariant.3; loaded_first = entered_all (sound _ c.requires.valid.0) c.loop-a.invariant.4 s all n.synchronizers }
+    let a = accepted c.args.good.now.good in
+    let all : c.loop-a.a ≡ (circuit_of c.args.good.now.bytes.now).arcs = omega (arith, a.counts.arcs) in
+    let s = rw (let e : c.args.good.now.image.arcs ≡ c.loop-a.a = omega arith in e) at c.enter-2.ensures in
+    record {
+      nodes = c.loop-a.invariant.2;
+      arcs = rw all at c.loop-a.invariant.0;
+      firsts = entered_all (sound _ a.valid) c.loop-a.invariant.1 s all a.counts.synchronizers;
+    }

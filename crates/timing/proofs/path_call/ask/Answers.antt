@@ -4,17 +4,17 @@ use Rattle.timing.specs.PathPromise.{few_arcs, no_such}
 use Rattle.timing.proofs.RecordsRead.{accepted}
 use Rattle.timing.proofs.path_call.ask.Goals as goal
 
-pub returns-then-arcs-image : goal.returns-then-arcs-image
-returns-then-arcs-image c = let a = accepted c.requires in few_arcs a.good (omega (arith, a.counts.synchronizers, c.if-arcs-image.true))
+pub returns-then-arcs-good : goal.returns-then-arcs-good
+returns-then-arcs-good c = let a = accepted c.args.good.now.good in rw c.into.ensures (few_arcs a.good (omega (arith, a.counts.synchronizers, c.if-arcs-good.true)))
 
-pub returns-then-synchronizer-image : goal.returns-then-synchronizer-image
-returns-then-synchronizer-image c =
-    let a = accepted c.requires in
+pub returns-then-synchronizer-good : goal.returns-then-synchronizer-good
+returns-then-synchronizer-good c =
+    let a = accepted c.args.good.now.good in
     let n = a.counts.synchronizers in
-    no_such a.good (omega (arith, n, c.if-arcs-image.false)) (omega (arith, n, c.if-synchronizer-image.true))
+    rw c.into-then-synchronizer-good.ensures (no_such a.good (omega (arith, n, c.if-arcs-good.false)) (omega (arith, n, c.if-synchronizer-good.true)))
 
 pub open-requires : goal.open-requires
 open-requires c =
-    let a = accepted c.requires in
+    let a = accepted c.args.good.now.good in
     let n = a.counts.synchronizers in
-    record { asked = record { good = a.good; arcs_fit = omega (arith, n, c.if-arcs-image.false); inside = omega (arith, n, c.if-synchronizer-image.false) }; image_value = a.same }
+    record { good = a.good; arcs_fit = omega (arith, n, c.if-arcs-good.false); inside = omega (arith, n, c.if-synchronizer-good.false) }

@@ -5,16 +5,16 @@ use Rattle.timing.proofs.RecordsRead.{accepted}
 use Rattle.timing.proofs.timing_call.serve.Goals as goal
 
 pub returns-then-results-l : goal.returns-then-results-l
-returns-then-results-l c = let a = accepted c.requires in few_numbers a.good (omega (arith, a.counts.synchronizers, c.if-results-l.true))
+returns-then-results-l c = let a = accepted c.args.good.now.good in rw c.into.ensures (few_numbers a.good (omega (arith, a.counts.synchronizers, c.if-results-l.true)))
 
 pub returns-then-arcs-l : goal.returns-then-arcs-l
 returns-then-arcs-l c =
-    let a = accepted c.requires in
+    let a = accepted c.args.good.now.good in
     let n = a.counts.synchronizers in
-    few_arcs a.good (omega (arith, n, c.if-results-l.false)) (omega (arith, n, c.if-arcs-l.true))
+    rw c.into-then-arcs-l.ensures (few_arcs a.good (omega (arith, n, c.if-results-l.false)) (omega (arith, n, c.if-arcs-l.true)))
 
 pub work-requires : goal.work-requires
 work-requires c =
-    let a = accepted c.requires in
+    let a = accepted c.args.good.now.good in
     let n = a.counts.synchronizers in
-    record { served = record { good = a.good; numbers_fit = omega (arith, n, c.if-results-l.false); arcs_fit = omega (arith, n, c.if-arcs-l.false) }; image_value = a.same }
+    record { good = a.good; numbers_fit = omega (arith, n, c.if-results-l.false); arcs_fit = omega (arith, n, c.if-arcs-l.false) }
