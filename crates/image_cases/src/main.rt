@@ -15,7 +15,8 @@ const LONGEST_NAME: usize = 64;
 
 const LONGEST_IMAGE: usize = 65_536;
 
-// Where a frame is at fault: says so, and answers that the run ends. timing_cases has the same: no plainer as a function of a third crate.
+// Where a frame is at fault: says so, and answers that the run ends. timing_cases has the same, with the same limits,
+// and takes frames alike. No plainer as functions of a third crate: heads and what is printed differ, so they would be handed closures over both streams.
 fn stop<W: Write>(output: &mut W, text: &str) -> io::Result<bool> {
     writeln!(output, "{text}")?;
     Ok(false)

@@ -16,7 +16,7 @@ use text::{LONGEST, image_from_text};
 // One byte more than the longest text has, so that a longer one is seen to be too long.
 const MOST_READ: usize = LONGEST + 1;
 
-// Room for the largest image.
+// Room for the largest image. `text` has the same inside: no plainer to export it, since it is a constant of `image` in another type.
 const ROOM: usize = Image::MOST_BYTES as usize;
 
 // The image of a whole input, of which a buffer holds the front, `size` bytes. The buffer has room for more than the longest text has, so what

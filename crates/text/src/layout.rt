@@ -22,7 +22,7 @@ fn put(word: u32, at: usize, room: &mut [u8; MOST])
     }
 }
 
-// Words one behind the other, and the place behind them, which is the answer.
+// Words one behind the other, and the place behind them. No plainer with `zip` for the places: the last of them is the answer.
 // Room and place stay two parameters. No plainer as a struct: that the place lies near enough follows from the lines counted (`Few`), so each method
 // would ask for what is asked here.
 fn put_all(words: &[u32], at: usize, room: &mut [u8; MOST]) -> usize

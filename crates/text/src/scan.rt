@@ -29,7 +29,7 @@ pub(crate) fn after_word(text: &[u8], at: usize, word: &[u8]) -> Option<usize>
     after(text, next, b' ')
 }
 
-// What a digit counts. By a subtraction, and the next in wider numbers: with `to_digit`, `checked_mul` and `filter` a text of long numbers took 1.4 times
+// What a digit counts. By a subtraction, and the next in wider numbers. Tried with `to_digit`, `checked_mul` and `filter`, a text of long numbers took 1.4 times
 // as long.
 #[tactic(auto, unfolding(grammar::specs::Inside::Reader::digit_at))]
 fn digit(text: &[u8], at: usize) -> Option<u32>
@@ -55,6 +55,7 @@ fn longer(value: u32, d: u32) -> Option<u32>
     }
 }
 
+// No plainer with a range for the places: the place behind the digits is part of the answer.
 #[tactic(auto, unfolding(grammar::specs::Inside::Reader::number_at, grammar::specs::Inside::Reader::digit_at))]
 pub(crate) fn number(text: &[u8], at: usize) -> Option<Number>
     ensures { result ≡ number_at text.now at }

@@ -16,7 +16,7 @@ use image::{Header, Image, Part, Refusal, Rule, bad_counts, bad_cycle, check};
 // The most bytes of a text.
 pub const LONGEST: usize = 32_768;
 
-// The stage at which lines of that kind begin. No `From`: a line is more than its stage.
+// The stage at which lines of that kind begin. No plainer as a `From`, whose `from_gives` would say the same clause.
 fn rank_of(line: Line) -> Stage
     ensures { stage_number result ≡ rank line }
 {

@@ -34,7 +34,7 @@ impl Web<'_> {
         self.laden(departs, a) - u64::from(self.cycle)
     }
 
-    // A range of arcs is two numbers, here and below. No plainer as a `Range`, which is not `Copy`: its clauses would read `range.start` and `range.end`.
+    // A range of arcs is two numbers, in this function and wherever one is asked. No plainer as a `Range`, which is not `Copy`: its clauses would read `range.start` and `range.end`.
     // The best of the arcs from `from` up to `to`: the last time that they bring for the late side, the first for the early one. The cycle is taken
     // off once.
     pub(crate) fn arrival(&self, departs: &[u64; NODES], from: usize, to: usize) -> u64

@@ -13,6 +13,7 @@ use crate::sizes::{FIRSTS, NODES, PHASES};
 use image::{Arc, Kind, Phase, Record, Synchronizer};
 
 // What the arcs need of the phases and of the synchronizers. Nothing else uses it. An array is a column, as in `Filled` of the crate `tables`.
+// How far it is filled (`Filled`, `Noted`) is said step by step, and is no fact of the type, which begins empty.
 #[derive(Drop)]
 struct Notes {
     // Of a phase: the tick of the cycle at which it closes, and how long it is active before that.
@@ -72,7 +73,7 @@ fn launched(good: &Good<'_>, notes: &Notes, i: u32) -> Node
 {
     let s = Synchronizer::of(good.bytes, good.image, i);
     let raised = RAISE + (good.image.cycle as u64);
-    // By the number: a match on the kind has a way for a number of no kind, which a good image has not.
+    // By the number. Tried with a match on the kind: its way for a flip-flop lacks that the number is no latch's, and the goal stays open.
     let (launch, latch) = if s.kind == Kind::Latch.number() {
         (raised - (notes.active[s.phase as usize] as u64), true)
     } else {

@@ -3,7 +3,7 @@ use crate::sizes::{ARCS, FIRSTS, NODES};
 
 // Of each arc: the synchronizer that it leaves, and its late and early weights with a cycle added. Of the synchronizers: where the arcs into each
 // begin, its launch, raised, and whether it is a latch. An array is a column, since `arcs_of` and `net_of` of the crate `tables` read each as a list. What is
-// loaded (`LoadedInto`) ties them to a good image; it is no fact of this type, which passes use without one.
+// loaded (`LoadedInto`) ties them to a good image; it is no fact of this type, which begins empty.
 #[derive(Drop)]
 pub(crate) struct Tables {
     pub(crate) source: [u16; ARCS],

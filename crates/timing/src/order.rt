@@ -16,12 +16,13 @@ const STEPS: usize = 2 * ARCS;
 #[derive(Drop)]
 struct Walk<'a> {
     web: Web<'a>,
-    // Who was seen; the synchronizers on the way, and the next arc of each. No heap here: a stack is an array, filled up to `depth`.
+    // Who was seen; the synchronizers on the way, and the next arc of each. No plainer with the kit's ArrayVec:
+    // that a push never fails would have to be shown, as `depth` must be here.
     seen: [bool; NODES],
     stack: [u16; NODES],
     ahead: [u16; NODES],
     depth: usize,
-    // Who is listed, and where.
+    // Who is listed, and where, up to `count`: as the stack up to `depth`.
     listed: [bool; NODES],
     list: [u16; NODES],
     count: usize,

@@ -55,7 +55,7 @@ fn time(t: u64) -> i64
     minus(t, RAISE)
 }
 
-// Early arrival - H.
+// Early arrival - H. This and the next are two formulas: no plainer as one with what differs handed in.
 fn hold_slack(arrival: u64, hold: u32) -> i64
     requires { arrival < SIGNED }
     ensures { result ≡ hold_by hold (lower arrival) }

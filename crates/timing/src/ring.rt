@@ -29,8 +29,8 @@ pub(crate) struct Raised<'a> {
     ghost parents_in: { ParentsIn (notes_in web parents.now base.now departs.now) web.nodes },
 }
 
-// A walk back over as many arcs as there are synchronizers: the nodes that it passes, one more, and the arcs over which it goes. No heap: arrays, used up
-// to a length.
+// A walk back over as many arcs as there are synchronizers: the nodes that it passes, one more, and the arcs over which it goes. All of
+// it is filled or there is no walk, so no plainer with the kit's ArrayVec.
 #[derive(Drop)]
 struct Walk {
     length: usize,
@@ -74,7 +74,8 @@ impl Walk {
         (first + 1..=second).min_by_key(|x| self.nodes[*x]).unwrap()
     }
 
-    // Writes `count` arcs in order of travel, from place `high` of the walk back on, into the buffer at `at`.
+    // Writes `count` arcs in order of travel, from place `high` of the walk back on, into the buffer at `at`. No plainer with slices: the arcs come from the
+    // walk's end, so one of two that go side by side would be turned round.
     fn write(&self, high: usize, count: usize, at: usize, arcs: &mut [u32])
         requires count_le_high { (count ≤ high) × (high ≤ NODES) }
         requires count_in_bounds { at + count ≤ length arcs.old }

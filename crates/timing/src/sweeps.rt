@@ -58,8 +58,7 @@ impl Web<'_> {
         ensures swept { Sweep (side_in self.now) (net_in self.now) self.now.nodes (times_of departs.old) (to_or_fro forth self.now.nodes) self.now.nodes departs.new (unwrap_or result self.now.nodes) }
         ensures below { IfSome result (λ x. x < self.now.nodes) }
     {
-        // In the loop a number that no place has stands for none: with an Option, which takes a register more, a chain took 6 of 100 more
-        // instructions.
+        // In the loop a number that no place has stands for none, as in `pass` and for its reason.
         let mut last = self.nodes;
         for x in start..self.nodes {
             if self.raise(departs, turn(forth, self.nodes, x)) {

@@ -11,7 +11,8 @@ use crate::side::side;
 use crate::sides::Sides;
 use image::{Refusal, Rule};
 
-// A growing loop, with the number of its arcs and its gain; or timed, with the numbers of missed setups and of missed holds.
+// A growing loop, with the number of its arcs and its gain; or timed, with the numbers of missed setups and of missed holds. No plainer by a `From` for
+// `Ring` and `Missed`, which are inside: two fields each, named once where they are made.
 #[derive(Clone, Copy, Debug, PartialEq, Eq)]
 pub enum Answer {
     Growing { arcs: u32, gain: i64 },

@@ -7,8 +7,10 @@ use crate::sizes::{ARCS, FIRSTS, NODES};
 
 // The arcs into a node lie side by side: those into node i are the ones from `first[i]` up to `first[i + 1]`. An arc's lead is its weight with
 // a cycle added, which is never below zero. Of nodes and arcs there are so many as `nodes` and `arcs` say, and all of them stay within the tables.
-// `late` is a flag, as `side_of` of the crate `tables` reads it. Departures stand beside it and in no type: passes raise them in place, and how much room is left for more (`Room`, of which `Ranged` is the end) is
-// another fact in each contract.
+// Tables are as large as the largest image asks. No plainer as slices of just that length: `first` has a place more than there are nodes. Nor is a method
+// plainer that gives `first[i]` and `first[i + 1]`, since each caller would take its pair and their order apart.
+// `late` is a flag, as `side_of` of the crate `tables` reads it. Departures that are still raised stand beside the web: passes write them in place, and how
+// much room is left for more (`Room`, of which `Ranged` is the end) is another fact in each contract.
 #[derive(Clone, Copy)]
 pub(crate) struct Web<'a> {
     pub(crate) late: bool,

@@ -27,7 +27,7 @@ const MOST_RESULTS: usize = 3_100;
 
 const MOST_ARCS: usize = 600;
 
-// Where no arc leads in.
+// Where no arc leads in: `mark` of circuit/specs/Times.
 const MARK: i64 = i64::MAX;
 
 // What stands in every place that is lent. But for the mark no result is 2^41 or more in size, and no arc has so great a number.
@@ -173,7 +173,8 @@ impl Frame {
     }
 }
 
-// Where a frame is at fault: says so, and answers that the run ends. image_cases has the same: no plainer as a function of a third crate.
+// Where a frame is at fault: says so, and answers that the run ends. image_cases has the same, with the same limits,
+// and takes frames alike. No plainer as functions of a third crate: heads and what is printed differ, so they would be handed closures over both streams.
 fn stop<W: Write>(output: &mut W, text: &str) -> io::Result<bool> {
     writeln!(output, "{text}")?;
     Ok(false)
