@@ -5,11 +5,15 @@ ghost use Rattle.image.specs.declared.header.Layout.{Layout};
 
 use crate::header::{Image, Layout};
 use crate::reader::Reader;
-use crate::records::{Arc, Phase, Stored, Synchronizer, place};
+use crate::records::{Arc, Phase, Stored, Synchronizer, in_table, place};
 
 pub trait Record: Stored {
     // Record i of its table, which the layout places.
     ghost numbered: { List ℕ → Layout → ℕ → Self };
+
+    // As `read`, where the image says how many there are: whole, where all the table is there.
+    fn of(bytes: &[u8], image: Image, i: u32) -> Self
+        ensures { result ≡ numbered bytes.now image.layout i };
 
     ghost lies: { (bytes : List ℕ) (layout : Layout) (i : ℕ) → numbered bytes layout i ≡ Self.from bytes (place_of (Self.table layout) (Self.size layout) i) };
 
@@ -22,39 +26,37 @@ pub trait Record: Stored {
         let mut reader = Reader::new(bytes, at);
         reader.next(size as usize, at + size as usize).unwrap()
     }
-
-    // As `read`, where the image says how many there are: whole, where all the table is there. Whether all of it lies within the bytes is the
-    // same question for each record, so compiled code asks it once for a loop over the table.
-    final fn of(bytes: &[u8], image: Image, i: u32) -> Self
-        ensures { result ≡ numbered bytes.now image.layout i }
-    {
-        let table = Self::table(image.layout);
-        let count = Self::count(image);
-        if Self::size(image.layout) == Self::BYTES
-            && i < count
-            && place(table, Self::BYTES, count) <= bytes.len()
-        {
-            Self::whole(bytes, place(table, Self::BYTES, i))
-        } else {
-            Self::read(bytes, image.layout, i)
-        }
-    }
 }
 
 impl Record for Phase {
     ghost numbered = { phase_at };
 
     ghost lies = { λ bytes layout i. unfold phase_at in refl };
+
+    #[tactic(auto, unfolding(crate::specs::Records::phase_at))]
+    fn of(bytes: &[u8], image: Image, i: u32) -> Phase {
+        in_table(bytes, image, i)
+    }
 }
 
 impl Record for Synchronizer {
     ghost numbered = { synchronizer_at };
 
     ghost lies = { λ bytes layout i. unfold synchronizer_at in refl };
+
+    #[tactic(auto, unfolding(crate::specs::Records::synchronizer_at))]
+    fn of(bytes: &[u8], image: Image, i: u32) -> Synchronizer {
+        in_table(bytes, image, i)
+    }
 }
 
 impl Record for Arc {
     ghost numbered = { arc_at };
 
     ghost lies = { λ bytes layout i. unfold arc_at in refl };
+
+    #[tactic(auto, unfolding(crate::specs::Records::arc_at))]
+    fn of(bytes: &[u8], image: Image, i: u32) -> Arc {
+        in_table(bytes, image, i)
+    }
 }

@@ -20,6 +20,17 @@ fn onward(at: usize, size: usize, end: usize) -> usize
     if fits(at, size, end) { at + size } else { at }
 }
 
+// The record at a place, where the table has one there. Of the slice and plain numbers.
+fn found<R: Stored>(bytes: &[u8], at: usize, size: usize, end: usize) -> Option<R>
+    ensures { result ≡ found_of R.from bytes.now at size end }
+{
+    if fits(at, size, end) {
+        Some(R::at(bytes, at))
+    } else {
+        None
+    }
+}
+
 impl<'a> Reader<'a> {
     pub fn new(bytes: &'a [u8], at: usize) -> Reader<'a>
         ensures { result ≡ reader_at bytes.entry at }
@@ -41,10 +52,6 @@ impl<'a> Reader<'a> {
     {
         let at = self.at;
         self.at = onward(at, size, end);
-        if fits(at, size, end) {
-            Some(R::at(self.bytes, at))
-        } else {
-            None
-        }
+        found(self.bytes, at, size, end)
     }
 }

@@ -72,11 +72,6 @@ pub trait Stored: Copy {
     // The bytes that the fields take. A layout may give a record more.
     const BYTES: u32;
 
-    // At a place that has all its bytes.
-    fn whole(bytes: &[u8], at: usize) -> Self
-        requires { at + BYTES ≤ length bytes.now }
-        ensures { result ≡ from bytes.now at };
-
     // At any place: field by field.
     fn cut(bytes: &[u8], at: usize) -> Self
         ensures { result ≡ from bytes.now at };
@@ -93,14 +88,31 @@ pub trait Stored: Copy {
     fn count(image: Image) -> u32
         ensures { result ≡ count image };
 
-    final fn at(bytes: &[u8], at: usize) -> Self
-        ensures { result ≡ from bytes.now at }
-    {
-        if fits(at, Self::BYTES as usize, bytes.len()) {
-            Self::whole(bytes, at)
-        } else {
-            Self::cut(bytes, at)
-        }
+    // At any place: whole where all its bytes are there, or else field by field.
+    fn at(bytes: &[u8], at: usize) -> Self
+        ensures { result ≡ from bytes.now at };
+}
+
+// What asks for a place that has all the record's bytes. It stands apart from `Stored`, whose functions every caller of the exported `Record` has: no
+// public function asks anything.
+pub(crate) trait Whole: Stored {
+    fn whole(bytes: &[u8], at: usize) -> Self
+        requires { at + Self.BYTES ≤ length bytes.now }
+        ensures { result ≡ Self.from bytes.now at };
+}
+
+// The record at place i of its table, where the image says how many there are: whole, where all the table is there. Whether all of it lies within the
+// bytes is the same question for each record, so compiled code asks it once for a loop over the table.
+pub(crate) fn in_table<R: Whole>(bytes: &[u8], image: Image, i: u32) -> R
+    ensures { result ≡ R.from bytes.now (place_of (R.table image.layout) (R.size image.layout) i) }
+{
+    let table = R::table(image.layout);
+    let size = R::size(image.layout);
+    let count = R::count(image);
+    if size == R::BYTES && i < count && place(table, R::BYTES, count) <= bytes.len() {
+        R::whole(bytes, place(table, R::BYTES, i))
+    } else {
+        R::at(bytes, place(table, size, i))
     }
 }
 
@@ -116,13 +128,6 @@ impl Stored for Phase {
     ghost count = { λ image. image.phases };
 
     const BYTES: u32 = Image::PHASE_BYTES;
-
-    fn whole(bytes: &[u8], at: usize) -> Phase {
-        Phase {
-            closing: whole(bytes, at),
-            active: whole(bytes, at + 4),
-        }
-    }
 
     fn cut(bytes: &[u8], at: usize) -> Phase {
         let s = Synchronizer::cut(bytes, at);
@@ -143,6 +148,23 @@ impl Stored for Phase {
     fn count(image: Image) -> u32 {
         image.phases
     }
+
+    fn at(bytes: &[u8], at: usize) -> Phase {
+        if fits(at, Image::PHASE_BYTES as usize, bytes.len()) {
+            Phase::whole(bytes, at)
+        } else {
+            Phase::cut(bytes, at)
+        }
+    }
+}
+
+impl Whole for Phase {
+    fn whole(bytes: &[u8], at: usize) -> Phase {
+        Phase {
+            closing: whole(bytes, at),
+            active: whole(bytes, at + 4),
+        }
+    }
 }
 
 impl Stored for Synchronizer {
@@ -157,17 +179,6 @@ impl Stored for Synchronizer {
     ghost count = { λ image. image.synchronizers };
 
     const BYTES: u32 = Image::SYNCHRONIZER_BYTES;
-
-    fn whole(bytes: &[u8], at: usize) -> Synchronizer {
-        Synchronizer {
-            phase: whole(bytes, at),
-            kind: whole(bytes, at + 4),
-            setup: whole(bytes, at + 8),
-            hold: whole(bytes, at + 12),
-            least: whole(bytes, at + 16),
-            greatest: whole(bytes, at + 20),
-        }
-    }
 
     // Phases and arcs that the end of the image cuts off are read by this too, as the first two words and the first four. So it stands apart
     // in the compiled code, and what is left of the others is small enough to vanish into their callers.
@@ -193,6 +204,27 @@ impl Stored for Synchronizer {
     fn count(image: Image) -> u32 {
         image.synchronizers
     }
+
+    fn at(bytes: &[u8], at: usize) -> Synchronizer {
+        if fits(at, Image::SYNCHRONIZER_BYTES as usize, bytes.len()) {
+            Synchronizer::whole(bytes, at)
+        } else {
+            Synchronizer::cut(bytes, at)
+        }
+    }
+}
+
+impl Whole for Synchronizer {
+    fn whole(bytes: &[u8], at: usize) -> Synchronizer {
+        Synchronizer {
+            phase: whole(bytes, at),
+            kind: whole(bytes, at + 4),
+            setup: whole(bytes, at + 8),
+            hold: whole(bytes, at + 12),
+            least: whole(bytes, at + 16),
+            greatest: whole(bytes, at + 20),
+        }
+    }
 }
 
 impl Stored for Arc {
@@ -207,15 +239,6 @@ impl Stored for Arc {
     ghost count = { λ image. image.arcs };
 
     const BYTES: u32 = Image::ARC_BYTES;
-
-    fn whole(bytes: &[u8], at: usize) -> Arc {
-        Arc {
-            from: whole(bytes, at),
-            to: whole(bytes, at + 4),
-            least: whole(bytes, at + 8),
-            greatest: whole(bytes, at + 12),
-        }
-    }
 
     fn cut(bytes: &[u8], at: usize) -> Arc {
         let s = Synchronizer::cut(bytes, at);
@@ -237,5 +260,24 @@ impl Stored for Arc {
 
     fn count(image: Image) -> u32 {
         image.arcs
+    }
+
+    fn at(bytes: &[u8], at: usize) -> Arc {
+        if fits(at, Image::ARC_BYTES as usize, bytes.len()) {
+            Arc::whole(bytes, at)
+        } else {
+            Arc::cut(bytes, at)
+        }
+    }
+}
+
+impl Whole for Arc {
+    fn whole(bytes: &[u8], at: usize) -> Arc {
+        Arc {
+            from: whole(bytes, at),
+            to: whole(bytes, at + 4),
+            least: whole(bytes, at + 8),
+            greatest: whole(bytes, at + 12),
+        }
     }
 }
