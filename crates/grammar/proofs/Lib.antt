@@ -2,6 +2,7 @@ pub mod Places
 pub mod Rows
 pub mod Sound
 pub mod Complete
+pub mod Onward
 pub mod OneReading
 pub mod InOrder
 pub mod WordsBack

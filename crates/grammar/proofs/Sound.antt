@@ -182,15 +182,15 @@ row_more j depth bytes at v w x e y l = record {
       (rw (byte_stands bytes v.next (between j) (between_inside j bytes v.next e) e) at x.from) y.from;
 }
 
--- A window that is joined is that of the grammar, to the end of its last part: what holds of that one, Q, holds of it.
-pub joined_sound : (j : Join) (v w : Span) (Q : Window → ℕ → Type 0) → v.high ≤ greatest → w.high ≤ greatest →
-    ((joined j (window v) (window w)).high ≤ greatest → Q (joined j (window v) (window w)) w.next) →
+-- A window that is joined is that of the grammar, to the end of its last part: what holds of that one, Q, holds of it. It is small where its parts are.
+pub joined_sound : (j : Join) (v w : Span) (Q : Window → ℕ → Type 0) →
+    ((v.high ≤ greatest → w.high ≤ greatest → (joined j (window v) (window w)).high ≤ greatest) → Q (joined j (window v) (window w)) w.next) →
     Finds (λ x. Q (window x) x.next) (joined_span j v w)
 unfolding joined_span
-joined_sound parallel v w Q k l h = found (h (omega arith))
-joined_sound series v w Q k l h =
+joined_sound parallel v w Q h = found (h (λ k l. omega arith))
+joined_sound series v w Q h =
     cond_both (low && high) (Some (record { low = v.low + w.low; high = v.high + w.high; next = w.next })) None (Finds (λ x. Q (window x) x.next))
-    (λ e. found (h (leb-true (v.high + w.high) greatest (and_parts low high e).1)))
+    (λ e. found (h (λ _ _. leb-true (v.high + w.high) greatest (and_parts low high e).1)))
     (λ e. nothing)
   where
     low : Bool
@@ -236,8 +236,8 @@ mutual
       cond_both (eqb (byte_at bytes w.next) (between j)) _ _ (Finds (Spans (row j) depth bytes at))
       (λ e. step (span_sound f (part j) depth bytes (w.next + 1))
       (λ x u. step
-      (joined_sound j w x (λ v to. Stands (λ s. Means (row j) depth s v × (v.high ≤ greatest)) bytes at to) t.is.1 u.is.1
-      (row_more j depth bytes at w x t (eqb-true (byte_at bytes w.next) (between j) e) u))
+      (joined_sound j w x (λ v to. Stands (λ s. Means (row j) depth s v × (v.high ≤ greatest)) bytes at to)
+      (λ small. row_more j depth bytes at w x t (eqb-true (byte_at bytes w.next) (between j) e) u (small t.is.1 u.is.1)))
       (λ y v. rest_sound f j depth bytes at y v)))
       (λ e. found t)
 
