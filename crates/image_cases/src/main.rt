@@ -29,8 +29,13 @@ fn print_answer<W: Write>(output: &mut W, bytes: &[u8]) -> io::Result<()> {
     }
 }
 
-// Takes one frame, and answers whether to go on.
-fn run_frame<R: Read, W: Write>(input: &mut R, output: &mut W) -> io::Result<bool> {
+// Takes one frame, and answers whether to go on. It is lent room for the name and the image, which `main` clears once and not for each frame.
+fn run_frame<R: Read, W: Write>(
+    input: &mut R,
+    output: &mut W,
+    name: &mut [u8; LONGEST_NAME],
+    bytes: &mut [u8; LONGEST_IMAGE],
+) -> io::Result<bool> {
     let mut head = [0u8; 8];
     let got = read_full(input, &mut head)?;
     if got == 0 {
@@ -44,8 +49,6 @@ fn run_frame<R: Read, W: Write>(input: &mut R, output: &mut W) -> io::Result<boo
     if name_length > LONGEST_NAME || image_length > LONGEST_IMAGE {
         return stop(output, "frame too long");
     }
-    let mut name = [0u8; LONGEST_NAME];
-    let mut bytes = [0u8; LONGEST_IMAGE];
     let name = &mut name[..name_length];
     let bytes = &mut bytes[..image_length];
     if read_full(input, name)? < name.len() || read_full(input, bytes)? < bytes.len() {
@@ -61,8 +64,10 @@ fn run_frame<R: Read, W: Write>(input: &mut R, output: &mut W) -> io::Result<boo
 fn main(rt: HostRuntime) -> io::Result<()> {
     let mut input = rt.stdin();
     let mut output = rt.stdout();
+    let mut name = [0u8; LONGEST_NAME];
+    let mut bytes = [0u8; LONGEST_IMAGE];
     for _ in 0..u64::MAX {
-        if !run_frame(&mut input, &mut output)? {
+        if !run_frame(&mut input, &mut output, &mut name, &mut bytes)? {
             break;
         }
     }

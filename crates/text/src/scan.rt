@@ -43,13 +43,14 @@ fn digit(text: &[u8], at: usize) -> Option<u32>
     }
 }
 
-// A number with one digit more, where it is within the limit.
-fn longer(value: u32, d: u32) -> Option<u32>
+// A number with one digit more, where it is within the limit. In 64 bits, so that it is not cut from digit to digit.
+fn longer(value: u64, d: u32) -> Option<u64>
+    requires { value ≤ greatest }
     ensures { SomeIff result (10 * value + d ≤ greatest) (10 * value + d) }
 {
-    let value = 10 * u64::from(value) + u64::from(d);
+    let value = 10 * value + u64::from(d);
     if value <= u64::from(GREATEST) {
-        Some(value as u32)
+        Some(value)
     } else {
         None
     }
@@ -68,7 +69,10 @@ pub(crate) fn number(text: &[u8], at: usize) -> Option<Number>
         value = longer(value, d)?;
         next += 1;
     }
-    Some(Number { value, next })
+    Some(Number {
+        value: value as u32,
+        next,
+    })
 }
 
 // A number and the byte behind it.

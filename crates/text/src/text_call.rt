@@ -39,10 +39,10 @@ fn in_place(stage: Stage, line: Line) -> bool
     }
 }
 
-// The next line; `None` where none may stand next.
+// The next line; `None` where none may stand next, and then nothing is laid out.
 fn take_line(text: &[u8], t: Tally, room: &mut [u8; MOST]) -> Option<Tally>
     requires { (length text.now ≤ longest_text) × (t.at < length text.now) × SoFar text.now t room.old }
-    ensures { MatchOption result (Fault text.now t.lines) (λ u. (t.at < u.at) × SoFar text.now u room.new) }
+    ensures { MatchOption result (Fault text.now t.lines × (room.new ≡ room.old)) (λ u. (t.at < u.at) × SoFar text.now u room.new) }
 {
     let read = read_line(text, t.at)?;
     if in_place(t.stage, read.line) {

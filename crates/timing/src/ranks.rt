@@ -25,12 +25,13 @@ pub(crate) struct Settled<'a> {
 }
 
 impl Settled<'_> {
-    // Does arc a give the time, from a synchronizer of that rank?
+    // Does arc a give the time, from a synchronizer of that rank? The rank is asked first: few arcs come from one of that rank, and on a chain every arc gives
+    // its time.
     fn hits(&self, ranks: &[u16; NODES], a: usize, time: u64, rank: u16) -> bool
         requires { a < self.now.web.arcs }
         ensures { let k = self.now in result ≡ (eqb (brought (arcs_in k.web) (times_of k.departs.now) a) time && eqb (times_of ranks.now (times_of k.web.source.now a)) rank) }
     {
-        self.web.brings(self.departs, a) == time && ranks[usize::from(self.web.source[a])] == rank
+        ranks[usize::from(self.web.source[a])] == rank && self.web.brings(self.departs, a) == time
     }
 
     // Does an arc from `from` up to `to` give the time, from a synchronizer of that rank?
@@ -66,7 +67,8 @@ impl Settled<'_> {
         true
     }
 
-    // One sweep. Says whether it found any.
+    // One sweep. Says whether it found any. Those that have their rank are passed over here, though `look` asks too: tried without, a path on a chain took up to
+    // half longer.
     fn sweep(&self, rank: u16, ranks: &mut [u16; NODES]) -> bool
         requires rank_bound { rank < 65534 }
         requires ranked { let k = self.now in (j : ℕ) → j < k.web.nodes → RankedTo (launched_in k.web k.launch.now) (times_of k.departs.now) (suc rank) j (times_of ranks.old j) }
@@ -74,7 +76,9 @@ impl Settled<'_> {
     {
         let mut found = false;
         for i in 0..self.web.nodes {
-            found |= self.look(i, rank, ranks);
+            if ranks[i] == NONE {
+                found |= self.look(i, rank, ranks);
+            }
         }
         found
     }

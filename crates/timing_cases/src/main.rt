@@ -35,7 +35,7 @@ const STAYED: i64 = -4_611_686_018_427_387_904;
 
 const ARC_STAYED: u32 = u32::MAX;
 
-// A result or a gain, as it is printed: a number, or a dash for the mark.
+// A gain, as it is printed: a number, or a dash for the mark.
 #[derive(Clone, Copy)]
 struct Printed(i64);
 
@@ -78,7 +78,12 @@ fn say_results<W: Write>(output: &mut W, results: &[i64]) -> io::Result<()> {
                 write!(output, "\n{}", i / 6)?;
             }
             say_gap(output, i, next)?;
-            write!(output, " {}", Printed(result))?;
+            // A mark in one piece, since each piece is a write of its own.
+            if result == MARK {
+                output.write_all(b" -")?;
+            } else {
+                write!(output, " {result}")?;
+            }
             next = i + 1;
         }
     }
@@ -182,6 +187,9 @@ fn stop<W: Write>(output: &mut W, text: &str) -> io::Result<bool> {
 
 // Takes one frame, and answers whether to go on.
 fn run_frame<R: Read, W: Write>(input: &mut R, output: &mut W) -> io::Result<bool> {
+    // Arrays stand first: compiled code clears what a function holds at its entry, and would clear one that is made later a second time.
+    let mut name = [0u8; LONGEST_NAME];
+    let mut bytes = [0u8; LONGEST_IMAGE];
     let mut head = [0u8; 24];
     let got = read_full(input, &mut head)?;
     if got == 0 {
@@ -193,8 +201,6 @@ fn run_frame<R: Read, W: Write>(input: &mut R, output: &mut W) -> io::Result<boo
     let Some(frame) = Frame::read(&head) else {
         return stop(output, "frame too long");
     };
-    let mut name = [0u8; LONGEST_NAME];
-    let mut bytes = [0u8; LONGEST_IMAGE];
     let name = &mut name[..frame.name];
     let bytes = &mut bytes[..frame.image];
     if read_full(input, name)? < name.len() || read_full(input, bytes)? < bytes.len() {

@@ -21,4 +21,4 @@ returns-then-eq c =
     (at_fault (empty c.args.text.now c.requires.0 c.loop-t.t _ c.loop-t.invariant c.loop-t-test.false (grind (arith, common_steps, c.if-eq.ensures))))
 
 pub returns-in_default : goal.returns-in_default
-returns-in_default c = rw c.at.ensures (at_fault c.in_default.ensures)
+returns-in_default c = rw c.at.ensures (at_fault c.in_default.ensures.0)

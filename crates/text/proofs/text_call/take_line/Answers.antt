@@ -1,12 +1,12 @@
 -- `take_line` reads a line; one that is good is laid out, and at any other reading stops.
-use mathlib.Core.Path.{sym, ◌∙◌}
+use mathlib.Core.Path.{refl, sym, ◌∙◌}
 use Rattle.grammar.proofs.InOrder.{in_place_lem}
 use Rattle.text.proofs.Reading.{at_more, few, onward, goes_on, no_line, misplaced}
 use Rattle.text.proofs.text_call.take_line.Goals as goal
 
 pub returns-in_err-read : goal.returns-in_err-read
 returns-in_err-read c =
-    rw c.from_residual.ensures (no_line c.args.text.now c.requires.0 c.args.t _ c.requires.2 c.requires.1 (sym c.in_err-read.ensures))
+    rw c.from_residual.ensures (no_line c.args.text.now c.requires.0 c.args.t _ c.requires.2 c.requires.1 (sym c.in_err-read.ensures), refl)
 
 pub lay-requires : goal.lay-requires
 lay-requires c = few c.args.text.now c.requires.0 c.args.t _ c.requires.2
@@ -21,6 +21,8 @@ returns-then-in_place c =
     )
 
 pub returns-else-in_place : goal.returns-else-in_place
-returns-else-in_place c =
-    misplaced c.args.text.now c.requires.0 c.args.t _ c.requires.2 c.requires.1 c.in_ok-read.read (sym c.in_ok-read.ensures)
-    (sym c.in_place.ensures ∙ c.if-in_place.false)
+returns-else-in_place c = (
+  misplaced c.args.text.now c.requires.0 c.args.t _ c.requires.2 c.requires.1 c.in_ok-read.read (sym c.in_ok-read.ensures)
+      (sym c.in_place.ensures ∙ c.if-in_place.false),
+  refl,
+)
