@@ -5,7 +5,32 @@ ghost use Rattle.image.specs.declared.header.Layout.{Layout};
 
 use crate::header::{Image, Layout};
 use crate::reader::Reader;
-use crate::records::{Arc, Phase, Stored, Synchronizer, in_table, place};
+use crate::records::{Arc, Phase, Stored, Synchronizer, Whole, place};
+
+// Record i of its table, from a reader that is made at the record's place, in a table that ends with the record.
+fn in_turn<R: Stored>(bytes: &[u8], layout: Layout, i: u32) -> R
+    ensures { result ≡ R.from bytes.now (place_of (R.table layout) (R.size layout) i) }
+{
+    let size = R::size(layout);
+    let at = place(R::table(layout), size, i);
+    let mut reader = Reader::new(bytes, at);
+    reader.next(size as usize, at + size as usize).unwrap()
+}
+
+// The same where the image says how many there are: whole, where all the table is there, and through the reader where it is not. Whether all of it lies
+// within the bytes is the same question for each record, so compiled code asks it once for a loop over the table.
+fn in_table<R: Whole>(bytes: &[u8], image: Image, i: u32) -> R
+    ensures { result ≡ R.from bytes.now (place_of (R.table image.layout) (R.size image.layout) i) }
+{
+    let table = R::table(image.layout);
+    let size = R::size(image.layout);
+    let count = R::count(image);
+    if size == R::BYTES && i < count && place(table, R::BYTES, count) <= bytes.len() {
+        R::whole(bytes, place(table, R::BYTES, i))
+    } else {
+        in_turn(bytes, image.layout, i)
+    }
+}
 
 pub trait Record: Stored {
     // Record i of its table, which the layout places.
@@ -17,14 +42,10 @@ pub trait Record: Stored {
 
     ghost lies: { (bytes : List ℕ) (layout : Layout) (i : ℕ) → numbered bytes layout i ≡ Self.from bytes (place_of (Self.table layout) (Self.size layout) i) };
 
-    // From a reader that is made at the record's place, in a table that ends with the record.
     final fn read(bytes: &[u8], layout: Layout, i: u32) -> Self
         ensures { result ≡ numbered bytes.now layout i }
     {
-        let size = Self::size(layout);
-        let at = place(Self::table(layout), size, i);
-        let mut reader = Reader::new(bytes, at);
-        reader.next(size as usize, at + size as usize).unwrap()
+        in_turn(bytes, layout, i)
     }
 }
 

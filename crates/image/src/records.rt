@@ -101,21 +101,6 @@ pub(crate) trait Whole: Stored {
         ensures { result ≡ Self.from bytes.now at };
 }
 
-// The record at place i of its table, where the image says how many there are: whole, where all the table is there. Whether all of it lies within the
-// bytes is the same question for each record, so compiled code asks it once for a loop over the table.
-pub(crate) fn in_table<R: Whole>(bytes: &[u8], image: Image, i: u32) -> R
-    ensures { result ≡ R.from bytes.now (place_of (R.table image.layout) (R.size image.layout) i) }
-{
-    let table = R::table(image.layout);
-    let size = R::size(image.layout);
-    let count = R::count(image);
-    if size == R::BYTES && i < count && place(table, R::BYTES, count) <= bytes.len() {
-        R::whole(bytes, place(table, R::BYTES, i))
-    } else {
-        R::at(bytes, place(table, size, i))
-    }
-}
-
 impl Stored for Phase {
     ghost from = { phase_from };
 
