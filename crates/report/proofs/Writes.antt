@@ -1,18 +1,21 @@
 -- One text after the other on a page, and the room that is left.
 use mathlib.Core.Path.{◌≡◌, refl, sym, ap, subst, ◌∙◌}
 use mathlib.Core.List.{List, [], ◌∷◌, ◌++◌, append_assoc, append-nil}
-use Prim.Native.Nat.{ℕ, zero, suc, ◌+◌, ◌-◌, ◌≤◌, ◌<◌}
+use Prim.Native.Nat.{ℕ, zero, suc, ◌+◌, ◌-◌, ◌^◌, ◌≤◌, ◌<◌}
 use native.Mathlib.Omega.{arith}
 use lib.IntN.{ℤ}
 use lib.ListN.{length, take, drop, length-append, length-drop}
 use Rattle.std.specs.Borrow.{GName}
+use Rattle.std.specs.Fmt.{decimal}
 use Rattle.std.proofs.lemmas.List.{length-take-le, take-append-drop, take_at, drop_at, drop-drop}
 use mir.Syntax.{w64}
 use mir.Val.{SFits}
 use Rattle.ticks.proofs.Words.{worded, word_is}
-use Rattle.report.specs.Text.{each}
+use Rattle.report.specs.Decimal.{digits}
+use Rattle.report.specs.Text.{each, arc_line}
 use Rattle.report.specs.Inside.Page.{Sheet, ◌then◌}
 use Rattle.image.proofs.Lists.{sets_append}
+use Rattle.report.proofs.Signs.{digits_printed}
 use Rattle.report.specs.Inside.Written.{Wrote, AtFront, joined, lengths}
 
 -- two texts, one after the other, in a buffer
@@ -28,15 +31,15 @@ pub sheet_then : (p : Sheet) (xs ys : List ℕ) {q r : Sheet} → q ≡ p then x
 sheet_then p xs ys v w =
     w ∙ ap (λ (s : Sheet). s then ys) v ∙ rw (append_assoc p.words xs ys, drop-drop (length ys) (length xs) p.rest, length-append xs ys) refl
 
--- words put where a page ends, whose end is then moved past them
-pub placed : (old new words : List ℕ) (end count start : ℕ) (buffer : GName) → count ≡ length words → end + count ≤ length old → start + length words ≡ end + count →
-    drop start new ≡ words ++ drop (end + count) old → take start new ≡ take start old →
+-- words put where a page ends, up to the place that its end is then moved to
+pub placed : (old new words : List ℕ) (end count start : ℕ) (buffer : GName) {stop : ℕ} → count ≡ length words → end + count ≤ length old → start + length words ≡ stop →
+    drop start new ≡ words ++ drop stop old → take start new ≡ take start old → stop ≡ end + count →
     ◌≡◌ {A = Sheet} (record { words = take (end + count) new; rest = drop (end + count) new; buffer = buffer })
     (record { words = take end old; rest = drop end old; buffer = buffer } then words)
-placed old new words end count start buffer long fits starts after before =
-    let here : start ≡ end = omega (arith, long, starts) in
+placed old new words end count start buffer {stop} long fits starts after before stops =
+    let here : start ≡ end = omega (arith, long, starts, stops) in
     let front : take end new ≡ take end old = rw here at before in
-    let back : drop end new ≡ words ++ drop (end + count) old = rw here at after in
+    let back : drop end new ≡ words ++ drop (end + count) old = rw (here, stops) at after in
     let reach : length (take end old ++ words) ≡ end + count = rw length-append (omega (arith, length-take-le end old (omega (arith, fits)), long)) in
     let all : new ≡ (take end old ++ words) ++ drop (end + count) old =
     sym (take-append-drop end new) ∙ rw (front, back) (sym (append_assoc (take end old) words (drop (end + count) old))) in
@@ -44,6 +47,23 @@ placed old new words end count start buffer long fits starts after before =
     let rest_is : drop (end + count) new ≡ drop (length words) (drop end old) =
     ap (drop (end + count)) all ∙ drop_at (take end old ++ words) (drop (end + count) old) (end + count) reach ∙ rw (drop-drop (length words) end old, long) refl in
     rw (words_are, rest_is) refl
+
+-- a number's digits between the end of a page and the place that its end is then moved to. What is counted and what is written are only known to be
+-- equal to the number, so that another number is refused for what it is, and not for its form.
+pub digits_fit : (n end : ℕ) {some all count stop room long : ℕ} → n < 2 ^ 64 → count ≡ length (digits some) → length (digits n) ≤ room →
+    end + room ≡ long → some ≡ n → all ≡ n → stop ≡ end + count → (length (decimal all) ≤ stop) × (stop ≤ long)
+digits_fit n end small counted fits whole e f stops =
+    rw (f, ← digits_printed n small) (omega (arith, rw e at counted, fits, whole, stops))
+
+pub digits_placed : (n : ℕ) (old new : List ℕ) (end count start : ℕ) (buffer : GName) {some all stop : ℕ} → n < 2 ^ 64 → count ≡ length (digits some) →
+    end + length (digits n) ≤ length old → start + length (decimal all) ≡ stop → drop start new ≡ decimal all ++ drop stop old → take start new ≡ take start old →
+    some ≡ n → all ≡ n → stop ≡ end + count →
+    ◌≡◌ {A = Sheet} (record { words = take (end + count) new; rest = drop (end + count) new; buffer = buffer })
+    (record { words = take end old; rest = drop end old; buffer = buffer } then digits n)
+digits_placed n old new end count start buffer small counted fits starts after before e f stops =
+    let long = rw e at counted in
+    let same = digits_printed n small in
+    rw same (placed old new (decimal n) end count start buffer (rw same at long) (omega (arith, long, fits)) (rw f at starts) (rw f at after) before stops)
 
 -- a signed number in a word of the machine is written as the number itself
 pub word_wrote : (text : ℤ → List ℕ) (z : ℤ) (p : Sheet) {q : Sheet} → SFits w64 z → q ≡ p then text (worded z) → q ≡ p then text z
@@ -109,3 +129,12 @@ module _ (text : ℕ → List ℕ) where
   pub each_none : (p : Sheet) → p ≡ p then each text 0
   unfolding each
   each_none p = rw append-nil refl
+
+-- the same of the lines of arcs, where those that are told are equal to them
+pub arcs_room : (arcs : List ℕ) (p : Sheet) (i : ℕ) {told : List ℕ} {q : Sheet} → told ≡ arcs → i < length told →
+    length (each (arc_line arcs) (length arcs)) ≤ length p.rest → q ≡ p then each (arc_line arcs) i → length (arc_line told i) ≤ length q.rest
+arcs_room arcs p i e l h w = rw e (each_room (arc_line arcs) p i (length arcs) (rw (sym e) l) h w)
+
+pub arcs_more : (arcs : List ℕ) (p : Sheet) (i : ℕ) {told : List ℕ} {q r : Sheet} → told ≡ arcs → q ≡ p then each (arc_line arcs) i →
+    r ≡ q then arc_line told i → r ≡ p then each (arc_line arcs) (suc i)
+arcs_more arcs p i e v w = each_more (arc_line arcs) p i v (rw e at w)
